@@ -1,0 +1,13 @@
+-- Each example of document 01 that is marked P holds of the definitions: antt computes both sides.
+-- Assumes nothing.
+use mathlib.Core.Path.{refl}
+use Rattle.link.specs.Examples.{examples, EachHolds}
+use Rattle.link.specs.Stuffing.{stuffed, stuffing}
+use Rattle.link.specs.Image.{image}
+use Rattle.link.specs.Fcs.{shiftStep, shiftSteps, byteStep, run, residue, fcs, fcsBytes}
+use Rattle.link.specs.Sum.{total, sum}
+use Rattle.link.specs.Frame.{withFcs, withSum, pointContent, addressedContent}
+
+pub each-holds : EachHolds examples
+unfolding stuffed stuffing image shiftStep shiftSteps byteStep run residue fcs fcsBytes total sum withFcs withSum pointContent addressedContent
+each-holds = (refl, (refl, (refl, (refl, (refl, (refl, (refl, tt)))))))

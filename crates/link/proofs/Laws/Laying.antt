@@ -1,0 +1,63 @@
+-- Laws of laying bytes into a buffer.
+-- Assumes nothing.
+use mathlib.Core.Path.{_≡_, refl, sym, ap, ap₂, _∙_}
+use mathlib.Core.List.{List, [], _∷_, _++_, append-assoc, append-nil}
+use Prim.Native.Nat.{ℕ, suc, _+_, _-_, _≤_, _<_}
+use native.Mathlib.Nat.{add-zero, zero-add, add-assoc}
+use native.Mathlib.Numerals.{add-one}
+use native.Mathlib.Omega.{arith}
+use lib.ListN.{length, take, drop, set, length-append, length-take, length-drop, take-append-drop, drop-of-length-le}
+use lib.Seq.{take-at, drop-at, drop-drop, length-take-le, set-split, take-all, drop-append-add}
+use borrow.Rule.Slice.PartMut.{putMid, midOf}
+use Rattle.link.specs.Laying.{laid}
+
+-- nothing laid is nothing changed
+pub laid-nil : (l : List ℕ) (at : ℕ) → laid l at [] ≡ l
+unfolding laid
+laid-nil l at = rw (add-zero at, take-append-drop)
+
+pub length-laid : (l : List ℕ) (at : ℕ) (x : List ℕ) → at + length x ≤ length l → length (laid l at x) ≡ length l
+unfolding laid
+length-laid l at x h =
+    simp (length-append, length-take, length-drop) (omega arith)
+
+-- up to its end, what was laid stands behind what was there
+pub take-laid : (l : List ℕ) (at : ℕ) (x : List ℕ) → at ≤ length l → take (at + length x) (laid l at x) ≡ take at l ++ x
+unfolding laid
+take-laid l at x h =
+    rw (← append-assoc (take at l) x (drop (at + length x) l))
+    (take-at (take at l ++ x) (drop (at + length x) l) (at + length x) (rw (length-append, length-take-le at l h)))
+
+drop-laid : (l : List ℕ) (at : ℕ) (x : List ℕ) (k : ℕ) → at ≤ length l
+    → drop (at + length x + k) (laid l at x) ≡ drop (at + length x + k) l
+unfolding laid
+drop-laid l at x k h =
+    let e : length (take at l ++ x) ≡ at + length x = rw (length-append, length-take-le at l h) in
+    rw (← append-assoc (take at l) x (drop (at + length x) l), ← drop-drop k (at + length x) l, ← e)
+    (drop-append-add (take at l ++ x) (drop (length (take at l ++ x)) l) k)
+
+-- two in a row are one
+pub laid-more : (l : List ℕ) (at : ℕ) (x y : List ℕ) → at ≤ length l
+    → laid (laid l at x) (at + length x) y ≡ laid l at (x ++ y)
+unfolding laid
+laid-more l at x y h =
+    ap₂ (λ (a b : List ℕ). a ++ (y ++ b)) (take-laid l at x h) (drop-laid l at x (length y) h)
+    ∙ simp (append-assoc, length-append, add-assoc)
+
+-- a byte put into its place is laid there
+pub set-laid : (l : List ℕ) (at b : ℕ) → at < length l → set l at b ≡ laid l at (b ∷ [])
+unfolding laid
+set-laid l at b h = set-split l at b h ∙ rw (← add-one at)
+
+-- a byte, and then the bytes behind it
+pub laid-next : (l : List ℕ) (at b : ℕ) (x : List ℕ) → at < length l → laid (set l at b) (at + 1) x ≡ laid l at (b ∷ x)
+laid-next l at b x h = rw (set-laid l at b h) (laid-more l at (b ∷ []) x (omega arith))
+
+-- what was laid into a part that was lent, from the place `at` to the end, stands there in the whole
+pub laid-part : (l : List ℕ) (at : ℕ) (x : List ℕ) → at + length x ≤ length l
+    → putMid at (length l - at) l (laid (midOf at (length l - at) l) 0 x) ≡ laid l at x
+unfolding laid
+laid-part l at x h =
+    let e : length (drop at l) ≤ length l - at = simp length-drop (omega arith) in
+    rw (take-all (length l - at) (drop at l) e, drop-of-length-le (drop at l) e, zero-add, drop-drop)
+    (simp (append-assoc, append-nil))

@@ -1,0 +1,45 @@
+-- Laws of stuffing: what it has in it, how long it is, and that it can be undone.
+-- Assumes nothing.
+use mathlib.Core.Path.{_≡_, refl, sym, ap, _∙_, subst}
+use mathlib.Core.Bool.{Bool, true, false}
+use mathlib.Core.List.{List, [], _∷_, _++_, List·Memᴰ, List·Memᴰ·append-cases}
+use mathlib.Core.Option.{Option, none, some, Option·map}
+use Prim.Native.Nat.{ℕ, _+_, _-_, _≤_, _<_}
+use native.Mathlib.Nat.{zero-add}
+use native.Mathlib.Decide.{decLe}
+use native.Mathlib.Omega.{arith}
+use lib.ListN.{length, length-append}
+use borrow.Author.Tests.{ne-eqb}
+use Rattle.link.specs.Choice.{pick}
+use Rattle.link.specs.Stuffing.{stuffed, stuffing, special, specials, unstuffing}
+
+-- what holds of FD, FE and FF holds of every byte from FD on
+by-special : (P : ℕ → Type 0) (b : ℕ) → 0xFD ≤ b → b < 0x100 → P 0xFD → P 0xFE → P 0xFF → P b
+by-special P b least most fd fe ff = go (decLe b 0xFD) (decLe b 0xFE)
+  where
+    go : Dec (b ≤ 0xFD) → Dec (b ≤ 0xFE) → P b
+    go (yes h) k = subst P (omega arith) fd
+    go (no h) (yes k) = subst P (omega arith) fe
+    go (no h) (no k) = subst P (omega arith) ff
+
+-- a byte below FD stands for itself
+pub stuffed-plain : (b : ℕ) → b < 0xFD → stuffed b ≡ b ∷ []
+unfolding stuffed
+stuffed-plain b h = simp (ne-eqb b 0xFD (omega arith), ne-eqb b 0xFE (omega arith), ne-eqb b 0xFF (omega arith))
+
+-- any other is FF and its distance from FF
+pub stuffed-special : (b : ℕ) → 0xFD ≤ b → b < 0x100 → stuffed b ≡ 0xFF ∷ (0xFF - b) ∷ []
+unfolding stuffed
+stuffed-special b least most = by-special (λ (n : ℕ). stuffed n ≡ 0xFF ∷ (0xFF - n) ∷ []) b least most refl refl refl
+
+plain-is : (b : ℕ) → b < 0xFD → special b ≡ false
+plain-is b h = simp (ne-eqb b 0xFD (omega arith), ne-eqb b 0xFE (omega arith), ne-eqb b 0xFF (omega arith))
+
+-- the count goes up by one at FD, FE and FF, and at no other byte
+pub specials-plain : (b : ℕ) (s : List ℕ) → b < 0xFD → specials (b ∷ s) ≡ specials s
+unfolding specials
+specials-plain b s h = rw (plain-is b h) (zero-add (specials s))
+
+pub specials-special : (b : ℕ) (s : List ℕ) → 0xFD ≤ b → b < 0x100 → specials (b ∷ s) ≡ 1 + specials s
+unfolding specials
+specials-special b s least most = by-special (λ (n : ℕ). specials (n ∷ s) ≡ 1 + specials s) b least most refl refl refl

@@ -1,0 +1,15 @@
+-- What a reader of this library must believe: the two lines' frames as functions on lists of bytes, and what each call answers.
+-- Read Stuffing, Image, Fcs, Sum, Address and Frame beside document 01, 'Layout of a frame'; Refusals and Writing beside 'Refusal numbers'.
+-- A byte is a number; where a definition would differ above 255 it says so.
+pub mod Choice
+pub mod Limits
+pub mod Laying
+pub mod Stuffing
+pub mod Image
+pub mod Fcs
+pub mod Sum
+pub mod Address
+pub mod Frame
+pub mod Refusals
+pub mod Writing
+pub mod Examples

@@ -1,0 +1,25 @@
+-- The refusals, with their numbers. 01, Refusal numbers. Assumes nothing.
+use Prim.Native.Nat.{ℕ}
+use Rattle.link.specs.declared.refusal.Refusal.{Refusal}
+use Rattle.link.specs.declared.refusal.Refusal.the-variants.{None, NoRoom, TooLong, BadAddress, BadState, BadRequest, WrongId, WrongCommand, WrongLength, WrongReason}
+use Rattle.link.specs.declared.refusal.Counted.{Counted}
+
+-- 0 is no refusal
+abbrev pub number : Refusal → ℕ
+number None = 0
+number NoRoom = 1
+number TooLong = 2
+number BadAddress = 3
+number BadState = 4
+number BadRequest = 5
+number WrongId = 6
+number WrongCommand = 7
+number WrongLength = 8
+number WrongReason = 9
+
+-- a refused call returns the number and count 0
+abbrev pub refused : Refusal → Counted
+refused why = record { refusal = why; count = 0 }
+
+abbrev pub counted : ℕ → Counted
+counted n = record { refusal = None; count = n }

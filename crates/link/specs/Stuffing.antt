@@ -1,0 +1,39 @@
+-- Stuffing: how content travels so that FD and FE stand in a frame only as its start and its stop.
+-- 01, Layout of a frame; 000 and 001, 'Байтстаффинг'. Assumes nothing.
+use Prim.Native.Nat.{ℕ, suc, _+_, _-_}
+use mathlib.Core.Bool.{Bool, true, false}
+use mathlib.Core.List.{List, [], _∷_, _++_}
+use mathlib.Core.Option.{Option, none, some, Option·map}
+use lib.Dec.{eqb, leb}
+use Rattle.link.specs.Choice.{pick, either}
+
+-- FD becomes FF 02, FE becomes FF 01, FF becomes FF 00, every other byte stands for itself
+unfoldable pub stuffed : ℕ → List ℕ
+stuffed b =
+    pick (eqb b 0xFD) (0xFF ∷ 0x02 ∷ [])
+    (pick (eqb b 0xFE) (0xFF ∷ 0x01 ∷ [])
+    (pick (eqb b 0xFF) (0xFF ∷ 0x00 ∷ []) (b ∷ [])))
+
+-- a content, byte for byte
+unfoldable pub stuffing : List ℕ → List ℕ
+stuffing [] = []
+stuffing (b ∷ bs) = stuffed b ++ stuffing bs
+
+-- FD, FE or FF, which travel as two bytes
+abbrev pub special : ℕ → Bool
+special b = either (eqb b 0xFD) (either (eqb b 0xFE) (eqb b 0xFF))
+
+-- how many of them a content has
+unfoldable pub specials : List ℕ → ℕ
+specials [] = 0
+specials (b ∷ bs) = pick (special b) 1 0 + specials bs
+
+-- Stuffing undone. FF and its partner 00, 01 or 02 give FF, FE or FD (01, How the receiver moves, rule 3); another partner, or
+-- none, is no content.
+unfoldable pub unstuffing : List ℕ → Option (List ℕ)
+unstuffing [] = some []
+unstuffing (b ∷ []) = pick (eqb b 0xFF) none (some (b ∷ []))
+unstuffing (b ∷ p ∷ rest) = elim (eqb b 0xFF) [
+  | true ↦ elim (leb p 0x02) [ true ↦ Option·map (λ c. (0xFF - p) ∷ c) (unstuffing rest) | false ↦ none ]
+  | false ↦ Option·map (λ c. b ∷ c) (unstuffing (p ∷ rest))
+]

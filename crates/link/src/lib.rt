@@ -1,0 +1,10 @@
+// Frames, check values and stuffing of the two serial lines of ProX card readers: the writing half.
+pub mod fcs;
+pub mod image;
+mod laying;
+mod limits;
+pub mod refusal;
+mod stuffing;
+pub mod sum;
+mod table;
+pub mod writer;
