@@ -4,4 +4,5 @@ pub mod Lists
 pub mod Table
 pub mod Laying
 pub mod Stuffing
+pub mod Image
 pub mod Examples

@@ -2,21 +2,28 @@
 -- 01, Layout of a frame, the table. Assumes nothing.
 use Prim.Native.Nat.{ℕ}
 use mathlib.Core.List.{List, [], _∷_, _++_}
+use Rattle.link.specs.declared.frame.Check.{Check}
+use Rattle.link.specs.declared.frame.Check.the-variants.{Fcs, Sum}
 use Rattle.link.specs.Fcs.{fcsBytes}
 use Rattle.link.specs.Sum.{sum}
 
--- the check goes over all content before it: on the point line the FCS, low byte first
-unfoldable pub withFcs : List ℕ → List ℕ
-withFcs front = front ++ fcsBytes front
+-- the check over all content before it: on the point line the FCS, low byte first, on the addressed line the sum
+unfoldable pub checkOf : Check → List ℕ → List ℕ
+checkOf Fcs front = fcsBytes front
+checkOf Sum front = sum front ∷ []
 
--- on the addressed line the sum
-unfoldable pub withSum : List ℕ → List ℕ
-withSum front = front ++ (sum front ∷ [])
+abbrev pub checkLength : Check → ℕ
+checkLength Fcs = 2
+checkLength Sum = 1
+
+-- a front with its check behind it
+unfoldable pub closed : Check → List ℕ → List ℕ
+closed check front = front ++ checkOf check front
 
 -- identifier, command, data, FCS
 unfoldable pub pointContent : ℕ → ℕ → List ℕ → List ℕ
-pointContent identifier command bytes = withFcs (identifier ∷ command ∷ bytes)
+pointContent identifier command bytes = closed Fcs (identifier ∷ command ∷ bytes)
 
 -- address, identifier, command, data, sum
 unfoldable pub addressedContent : ℕ → ℕ → ℕ → List ℕ → List ℕ
-addressedContent address identifier command bytes = withSum (address ∷ identifier ∷ command ∷ bytes)
+addressedContent address identifier command bytes = closed Sum (address ∷ identifier ∷ command ∷ bytes)

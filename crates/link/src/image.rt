@@ -8,6 +8,7 @@ ghost use mathlib.Core.Path.{_≡_};
 ghost use Prim.Native.Nat.{_≤_};
 ghost use lib.ListN.{length};
 ghost use Rattle.link.specs.Limits.{mostContent};
+ghost use Rattle.link.specs.Image.{imageLength};
 ghost use Rattle.link.specs.Writing.{left, measured, imageWritten};
 
 const START: u8 = 0xFD;
@@ -21,20 +22,28 @@ pub fn image_length(content: &[u8]) -> Counted
     if content.len() > MOST_CONTENT {
         return Counted::refused(Refusal::TooLong);
     }
-    Counted::of(2 + content.len() + specials(content))
+    Counted::of(wire_length(content))
 }
 
-// Writes the image of a content of at most MOST_CONTENT bytes to the front of `out`.
+// The same, for a content known to be within the limit.
+fn wire_length(content: &[u8]) -> usize
+    requires { ⌜ length (now content) ≤ mostContent ⌝ }
+    ensures { λ r. ⌜ r ≡ imageLength (now (content .entry)) ⌝ }
+{
+    2 + content.len() + specials(content)
+}
+
+// Writes the image of a content within the limit to the front of `out`, and answers its length.
 pub(crate) fn write_image(content: &[u8], out: &mut [u8]) -> Counted
     requires { ⌜ length (now content) ≤ mostContent ⌝ }
     ensures { λ r. ⌜ left r (now (out .exit)) ≡ imageWritten (now (content .entry)) (now (out .entry)) ⌝ }
 {
-    let length = 2 + content.len() + specials(content);
-    if out.len() < length {
+    let needed = wire_length(content);
+    if out.len() < needed {
         return Counted::refused(Refusal::NoRoom);
     }
     out[0] = START;
     let stuffed = stuff(content, &mut out[1..]);
     out[1 + stuffed] = STOP;
-    Counted::of(length)
+    Counted::of(needed)
 }

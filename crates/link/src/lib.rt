@@ -1,5 +1,6 @@
 // Frames, check values and stuffing of the two serial lines of ProX card readers: the writing half.
 pub mod fcs;
+mod frame;
 pub mod image;
 mod laying;
 mod limits;

@@ -8,9 +8,10 @@ use Prim.Native.Nat.{ℕ, _+_, _-_, _≤_, _<_}
 use native.Mathlib.Nat.{zero-add}
 use native.Mathlib.Decide.{decLe}
 use native.Mathlib.Omega.{arith}
+use lib.Dec.{eqb}
 use lib.ListN.{length, length-append}
 use borrow.Author.Tests.{ne-eqb}
-use Rattle.link.specs.Choice.{pick}
+use Rattle.link.specs.Choice.{pick, either}
 use Rattle.link.specs.Stuffing.{stuffed, stuffing, special, specials, unstuffing}
 
 -- what holds of FD, FE and FF holds of every byte from FD on
@@ -43,3 +44,21 @@ specials-plain b s h = rw (plain-is b h) (zero-add (specials s))
 pub specials-special : (b : ℕ) (s : List ℕ) → 0xFD ≤ b → b < 0x100 → specials (b ∷ s) ≡ 1 + specials s
 unfolding specials
 specials-special b s least most = by-special (λ (n : ℕ). specials (n ∷ s) ≡ 1 + specials s) b least most refl refl refl
+
+-- a byte travels as one byte, and as two where it is special
+by-tests : (p q r : Bool) (b : ℕ)
+    → length (pick p (0xFF ∷ 0x02 ∷ []) (pick q (0xFF ∷ 0x01 ∷ []) (pick r (0xFF ∷ 0x00 ∷ []) (b ∷ []))))
+    ≡ 1 + pick (either p (either q r)) 1 0
+by-tests true q r b = refl
+by-tests false true r b = refl
+by-tests false false true b = refl
+by-tests false false false b = refl
+
+length-stuffed : (b : ℕ) → length (stuffed b) ≡ 1 + pick (special b) 1 0
+unfolding stuffed
+length-stuffed b = by-tests (eqb b 0xFD) (eqb b 0xFE) (eqb b 0xFF) b
+
+pub length-stuffing : (content : List ℕ) → length (stuffing content) ≡ length content + specials content
+unfolding stuffing specials
+length-stuffing [] = refl
+length-stuffing (b ∷ bs) = simp length-append (omega (arith, length-stuffed b, length-stuffing bs))

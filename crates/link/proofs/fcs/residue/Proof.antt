@@ -52,16 +52,17 @@ loop-again c =
     let d = c .before .before in
     let s = d .before .args .bytes .now in
     let met = bitXor (getD s (d .loop .i) 0) (d .loop .register) in
-    let h : met % 0x100 < 0x100 = omega arith in
-    (omega arith,
-    d .loop .inv .1,
-    ap (λ (w : ℕ). run (bitXor w (d .loop .register / 0x100)) (drop (d .loop .i + 1) s))
-    (entry (shiftSteps 8) _ (met % 0x100) h (d .loop .inv .1) ∙ ap (shiftSteps 8) (sym (and-mask met 8)))
-    ∙ rw (drop-next s (d .loop .i) (c .before .loop-test .taken)) at (d .loop .inv .2))
+    let h : met % 0x100 < 0x100 = omega arith in (
+      omega arith,
+      d .loop .inv .1,
+      ap (λ (w : ℕ). run (bitXor w (d .loop .register / 0x100)) (drop (d .loop .i + 1) s))
+          (entry (shiftSteps 8) _ (met % 0x100) h (d .loop .inv .1) ∙ ap (shiftSteps 8) (sym (and-mask met 8)))
+          ∙ rw (drop-next s (d .loop .i) (c .before .loop-test .taken)) at (d .loop .inv .2),
+    )
 
 returns : tie.Need-returns Inv-loop μ-loop
 unfolding run
-returns c = 
+returns c =
     let d = c .before in
     rw (drop-of-length-le _ (c .loop-test .left)) at (d .loop .inv .2)
 

@@ -1,80 +1,117 @@
+-- `image::write_image` meets its contract: start, the stuffing in the part lent from index one on, stop.
+-- Assumes nothing.
+use mathlib.Core.Path.{_≡_, ap, ap₂, _∙_}
+use mathlib.Core.List.{List}
+use Prim.Native.Nat.{ℕ, _+_, _-_, _≤_, _<_}
+use native.Mathlib.Omega.{arith}
+use borrow.Author.Tests.{lt-ltb, le-ltb}
+use borrow.Rule.Slice.PartMut.{putMid, same-len-mid}
+use lib.ListN.{length, set, length-set, length-take, length-drop}
+use Rattle.link.specs.declared.refusal.Counted.{Counted}
+use Rattle.link.specs.Laying.{laid}
+use Rattle.link.specs.Stuffing.{stuffing}
+use Rattle.link.specs.Image.{start, stop, imageLength}
+use Rattle.link.specs.Refusals.{counted}
+use Rattle.link.specs.Writing.{left, imageWritten}
+use Rattle.link.proofs.Laws.Laying.{laid-part, length-laid}
+use Rattle.link.proofs.Laws.Image.{room-behind, image-laid}
 use borrow.Author.Needs.{needs}
 use Rattle.link.proofs.image.write_image.Statement.{statement}
 use Rattle.link.proofs.image.write_image.Tie as tie
 use Rattle.link.proofs.image.write_image.Reads as reads
 use Rattle.link.proofs.image.write_image.Lts as lts
+use Rattle.link.proofs.image.wire_length.Reads as wire-length-reads
 use Rattle.link.proofs.refusal.Counted.of.Reads as of-reads
 use Rattle.link.proofs.refusal.Counted.refused.Reads as refused-reads
-use Rattle.link.proofs.stuffing.specials.Reads as specials-reads
 use Rattle.link.proofs.stuffing.stuff.Reads as stuff-reads
 
--- src/image.rt:32:18
-add-length : tie.Need-add-length
-add-length c = search needs
+-- there is room for start, stuffing and stop
+room : (c : tie.Else1)
+    → 2 + length (stuffing (c .before .before .before .before .args .content .now)) ≤ length (c .before .before .before .before .args .out .now)
+room c =
+    let d = c .before .before .before .before in
+    omega (arith, room-behind (d .args .content .now))
 
--- src/image.rt:32:38
-specials-requires : tie.Need-specials-requires
-specials-requires c κs = search needs
+-- when the part lent for the stuffing is back, the stuffing stands behind start
+back : (c : tie.After-slice-known2)
+    → let d = c .before .before .before .before .before .before .before .before in
+    let out₁ = set (d .args .out .now) 0 start in
+    putMid 1 (length out₁ - 1) out₁ (c .before .before .stuff .last .1 .0) ≡ laid out₁ 1 (stuffing (d .args .content .now))
+back c =
+    let d = c .before .before .before .before .before .before .before .before in
+    let out₁ = set (d .args .out .now) 0 start in
+    ap (putMid 1 (length out₁ - 1) out₁) (c .before .before .stuff .ensures .1)
+    ∙ laid-part out₁ 1 (stuffing (d .args .content .now)) (simp length-set (omega (arith, room (c .before .before .before .before))))
 
--- src/image.rt:32:18
-add-length-2 : tie.Need-add-length-2
-add-length-2 c = search needs
+length-back : (c : tie.After-slice-known2)
+    → let d = c .before .before .before .before .before .before .before .before in
+    let out₁ = set (d .args .out .now) 0 start in
+    length (putMid 1 (length out₁ - 1) out₁ (c .before .before .stuff .last .1 .0)) ≡ length (d .args .out .now)
+length-back c =
+    let d = c .before .before .before .before .before .before .before .before in
+    ap length (back c)
+    ∙ length-laid _ 1 _ (simp length-set (omega (arith, room (c .before .before .before .before))))
+    ∙ length-set (d .args .out .now) 0 start
 
--- src/image.rt:34:9
+wire-length-requires : tie.Need-wire-length-requires
+wire-length-requires c κs = search needs
+
 refused-requires : tie.Need-refused-requires
 refused-requires c κs = search needs
 
--- src/image.rt:34:9
 returns : tie.Need-returns
-returns c = ?
+unfolding imageWritten
+returns c =
+    let d = c .before .before .before .before .before in
+    let h : length (d .args .out .now) < imageLength (d .args .content .now) = omega arith in
+    simp (lt-ltb _ _ h) (ap (λ (a : Counted). left a (d .args .out .now)) (c .refused .ensures))
 
--- src/image.rt:36:5
 slice-write-out : tie.Need-slice-write-out
-slice-write-out c = search needs
+slice-write-out c = omega (arith, room c)
 
--- src/image.rt:37:34
 sub-stuff : tie.Need-sub-stuff
-sub-stuff c = ?
+sub-stuff c = simp length-set (omega (arith, room c))
 
--- src/image.rt:37:34
 part-stuff-start : tie.Need-part-stuff-start
-part-stuff-start c = ?
+part-stuff-start c = sub-stuff c
 
--- src/image.rt:37:34
 part-stuff-end : tie.Need-part-stuff-end
 part-stuff-end c = search needs
 
--- src/image.rt:37:9
 stuff-requires : tie.Need-stuff-requires
-stuff-requires c κs = ?
+stuff-requires c κs =
+    let d = c .before .before .before .before .before in
+    simp (length-take, length-drop, length-set) (omega (arith, room (c .before)))
 
--- src/image.rt:38:9
 add-out : tie.Need-add-out
-add-out c = ?
+add-out c = omega (arith, room (c .before .before .before .before))
 
--- src/image.rt:38:5
 slice-write-out-2 : tie.Need-slice-write-out-2
-slice-write-out-2 c = ?
+slice-write-out-2 c = omega (arith, room (c .before .before .before .before), length-back c)
 
--- src/image.rt:39:5
 of-requires : tie.Need-of-requires
 of-requires c κs = search needs
 
--- src/image.rt:28:1
 same-length : tie.Need-same-length
-same-length c = ?
+same-length c = rw length-set (length-back (c .before))
 
--- src/image.rt:28:1
 returns-2 : tie.Need-returns-2
-returns-2 c = ?
+unfolding imageWritten
+returns-2 c =
+    let d = c .before .before .before .before .before .before .before .before .before in
+    let content = d .args .content .now in
+    let h : imageLength content ≤ length (d .args .out .now) = omega arith in
+    simp (le-ltb _ _ h)
+    (ap₂ left
+    (c .of .ensures ∙ ap counted (c .before .before .before .before .before .before .wire-length .ensures))
+    (ap₂ (λ (l : List ℕ) (k : ℕ). set l (1 + k) stop) (back (c .before)) (c .before .before .before .stuff .ensures .0)
+    ∙ image-laid content (d .args .out .now) h))
 
 pub write-image-spec : {M : Type 1} → statement M
 write-image-spec =
     tie.close
     (tie.spec
-    add-length
-    specials-requires
-    add-length-2
+    wire-length-requires
     refused-requires
     returns
     slice-write-out

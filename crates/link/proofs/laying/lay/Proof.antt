@@ -41,10 +41,11 @@ loop-less c = omega arith
 loop-again : tie.Need-loop-again Inv-loop μ-loop
 loop-again c =
     let d = c .before .before in
-    let h : d .before .args .at + d .loop .i < length (d .loop .out) = omega arith in
-    (omega arith,
-    simp length-set (omega arith),
-    rw (← add-assoc, laid-next, ← drop-next, c .before .loop-test .taken) (d .loop .inv .2))
+    let h : d .before .args .at + d .loop .i < length (d .loop .out) = omega arith in (
+      omega arith,
+      simp length-set (omega arith),
+      rw (← add-assoc, laid-next, ← drop-next, c .before .loop-test .taken) (d .loop .inv .2),
+    )
 
 same-length : tie.Need-same-length Inv-loop μ-loop
 same-length c = omega arith

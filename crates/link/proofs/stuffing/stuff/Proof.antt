@@ -56,13 +56,14 @@ loop-again c =
     let d = c .before .before .before .before .before .before in
     let s = d .before .before .before .args .content .now in
     let h : d .loop .i < length s = omega arith in
-    let e = c .before .before .stuff-byte .ensures in
-    (omega arith,
-    omega arith,
-    omega (arith, next-length s (d .loop .i) h),
-    ap₂ (λ (l : List ℕ) (k : ℕ). laid l k (stuffing (drop (d .loop .i + 1) s))) (e .1) (e .0)
-    ∙ laid-more (d .loop .room) (d .loop .at) (stuffed (getD s (d .loop .i) 0)) (stuffing (drop (d .loop .i + 1) s)) (omega arith)
-    ∙ rw (next s (d .loop .i) h) at (d .loop .inv .3))
+    let e = c .before .before .stuff-byte .ensures in (
+      omega arith,
+      omega arith,
+      omega (arith, next-length s (d .loop .i) h),
+      ap₂ (λ (l : List ℕ) (k : ℕ). laid l k (stuffing (drop (d .loop .i + 1) s))) (e .1) (e .0)
+          ∙ laid-more (d .loop .room) (d .loop .at) (stuffed (getD s (d .loop .i) 0)) (stuffing (drop (d .loop .i + 1) s)) (omega arith)
+          ∙ rw (next s (d .loop .i) h) at (d .loop .inv .3),
+    )
 
 same-length : tie.Need-same-length Inv-loop μ-loop
 same-length c = omega arith
@@ -71,9 +72,10 @@ returns : tie.Need-returns Inv-loop μ-loop
 unfolding stuffing
 returns c =
     let d = c .before in
-    let h : length (d .before .before .before .args .content .now) ≤ d .loop .i = omega arith in
-    (omega (arith, ap (λ (s : List ℕ). length (stuffing s)) (drop-of-length-le (d .before .before .before .args .content .now) h)),
-    rw (drop-of-length-le, laid-nil) at (d .loop .inv .3))
+    let h : length (d .before .before .before .args .content .now) ≤ d .loop .i = omega arith in (
+      omega (arith, ap (λ (s : List ℕ). length (stuffing s)) (drop-of-length-le (d .before .before .before .args .content .now) h)),
+      rw (drop-of-length-le, laid-nil) at (d .loop .inv .3),
+    )
 
 pub stuff-spec : {M : Type 1} → statement M
 stuff-spec =

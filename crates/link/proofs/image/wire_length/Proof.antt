@@ -1,0 +1,26 @@
+-- `image::wire_length` meets its contract: it adds what the image's length adds.
+-- Assumes nothing.
+use native.Mathlib.Omega.{arith}
+use Rattle.link.specs.Image.{imageLength}
+use borrow.Author.Needs.{needs}
+use Rattle.link.proofs.image.wire_length.Statement.{statement}
+use Rattle.link.proofs.image.wire_length.Tie as tie
+use Rattle.link.proofs.image.wire_length.Reads as reads
+use Rattle.link.proofs.image.wire_length.Lts as lts
+use Rattle.link.proofs.stuffing.specials.Reads as specials-reads
+
+add-result : tie.Need-add-result
+add-result c = search needs
+
+specials-requires : tie.Need-specials-requires
+specials-requires c κs = search needs
+
+add-result-2 : tie.Need-add-result-2
+add-result-2 c = search needs
+
+returns : tie.Need-returns
+unfolding imageLength
+returns c = omega arith
+
+pub wire-length-spec : {M : Type 1} → statement M
+wire-length-spec = tie.close (tie.spec add-result specials-requires add-result-2 returns)

@@ -1,0 +1,52 @@
+// A frame put together: head, data and the check behind them, and then its image.
+use crate::fcs::fcs;
+use crate::image::write_image;
+use crate::laying::lay;
+use crate::limits::MOST_CONTENT;
+use crate::refusal::Counted;
+use crate::sum::sum;
+ghost use mathlib.Core.Path.{_≡_};
+ghost use mathlib.Core.List.{_++_};
+ghost use Prim.Native.Nat.{_+_, _≤_};
+ghost use lib.ListN.{length, take};
+ghost use Rattle.link.specs.Limits.{mostContent};
+ghost use Rattle.link.specs.Laying.{laid};
+ghost use Rattle.link.specs.Frame.{checkOf, checkLength, closed};
+ghost use Rattle.link.specs.Writing.{left, imageWritten};
+
+// Which check stands at the end of a content: the FCS on the point line, the sum on the addressed line.
+pub(crate) enum Check {
+    Fcs,
+    Sum,
+}
+
+// Lays the check of the first `front` bytes of `content` behind them, and answers the place behind it.
+fn close(check: Check, content: &mut [u8], front: usize) -> usize
+    requires { ⌜ front + checkLength check ≤ length (now content) ⌝ }
+    ensures { λ r. ⌜ (r ≡ front + checkLength check) × (now (content .exit) ≡ laid (now (content .entry)) front (checkOf check (take front (now (content .entry))))) ⌝ }
+{
+    match check {
+        Check::Fcs => {
+            let value = fcs(&content[..front]);
+            lay(content, front, &[(value % 256) as u8, (value / 256) as u8]);
+            front + 2
+        }
+        Check::Sum => {
+            let value = sum(&content[..front]);
+            lay(content, front, &[value]);
+            front + 1
+        }
+    }
+}
+
+// Writes the image of the frame with this head and data to the front of `out`, and answers its length.
+pub(crate) fn write_frame(check: Check, head: &[u8], data: &[u8], out: &mut [u8]) -> Counted
+    requires { ⌜ length (now head) + length (now «data») + checkLength check ≤ mostContent ⌝ }
+    ensures { λ r. ⌜ left r (now (out .exit)) ≡ imageWritten (closed check (now (head .entry) ++ now («data» .entry))) (now (out .entry)) ⌝ }
+{
+    let mut content = [0u8; MOST_CONTENT];
+    lay(&mut content, 0, head);
+    lay(&mut content, head.len(), data);
+    let end = close(check, &mut content, head.len() + data.len());
+    write_image(&content[..end], out)
+}
