@@ -5,4 +5,5 @@ pub mod Table
 pub mod Laying
 pub mod Stuffing
 pub mod Image
+pub mod Frame
 pub mod Examples

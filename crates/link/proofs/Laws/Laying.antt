@@ -2,7 +2,7 @@
 -- Assumes nothing.
 use mathlib.Core.Path.{_≡_, refl, sym, ap, ap₂, _∙_}
 use mathlib.Core.List.{List, [], _∷_, _++_, append-assoc, append-nil}
-use Prim.Native.Nat.{ℕ, suc, _+_, _-_, _≤_, _<_}
+use Prim.Native.Nat.{ℕ, suc, _+_, _-_, _≤_, _<_, zero-le}
 use native.Mathlib.Nat.{add-zero, zero-add, add-assoc}
 use native.Mathlib.Numerals.{add-one}
 use native.Mathlib.Omega.{arith}
@@ -43,6 +43,13 @@ unfolding laid
 laid-more l at x y h =
     ap₂ (λ (a b : List ℕ). a ++ (y ++ b)) (take-laid l at x h) (drop-laid l at x (length y) h)
     ∙ simp (append-assoc, length-append, add-assoc)
+
+-- the same two laws at the front of a buffer
+pub take-front : (l x : List ℕ) → take (length x) (laid l 0 x) ≡ x
+take-front l x = rw (zero-add (length x)) at (take-laid l 0 x zero-le)
+
+pub laid-behind : (l x y : List ℕ) → laid (laid l 0 x) (length x) y ≡ laid l 0 (x ++ y)
+laid-behind l x y = rw (zero-add (length x)) at (laid-more l 0 x y zero-le)
 
 -- a byte put into its place is laid there
 pub set-laid : (l : List ℕ) (at b : ℕ) → at < length l → set l at b ≡ laid l at (b ∷ [])

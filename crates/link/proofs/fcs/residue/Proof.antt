@@ -11,8 +11,6 @@ use Rattle.link.proofs.Laws.Lists.{drop-next}
 use Rattle.link.proofs.Laws.Table.{values, entry}
 use Rattle.link.proofs.fcs.residue.Statement.{statement}
 use Rattle.link.proofs.fcs.residue.Tie as tie
-use Rattle.link.proofs.fcs.residue.Reads as reads
-use Rattle.link.proofs.fcs.residue.Lts as lts
 
 abbrev Inv-loop : tie.InvT-loop
 Inv-loop bytes table register₀ i₀ register i =

@@ -1,59 +1,79 @@
+-- `frame::write_frame` meets its contract: what is laid into the content is the closed frame, and its image is written.
+-- Assumes nothing.
+use mathlib.Core.Path.{_≡_, sym, ap, _∙_}
+use mathlib.Core.List.{List, _++_}
+use Prim.Native.Nat.{ℕ, _+_, _≤_}
+use native.Mathlib.Omega.{arith}
 use borrow.Author.Needs.{needs}
+use lib.ListN.{length, take, length-append}
+use Rattle.link.specs.Laying.{laid}
+use Rattle.link.specs.Frame.{checkOf, checkLength, closed}
+use Rattle.link.specs.Writing.{imageWritten}
+use Rattle.link.proofs.Laws.Frame.{length-closed, closed-laid}
 use Rattle.link.proofs.frame.write_frame.Statement.{statement}
 use Rattle.link.proofs.frame.write_frame.Tie as tie
-use Rattle.link.proofs.frame.write_frame.Reads as reads
-use Rattle.link.proofs.frame.write_frame.Lts as lts
-use Rattle.link.proofs.frame.close.Reads as close-reads
-use Rattle.link.proofs.image.write_image.Reads as write-image-reads
-use Rattle.link.proofs.laying.lay.Reads as lay-reads
 
--- src/frame.rt:48:9
+-- the function's entry, from the place where the content is whole
+entry : tie.After-content7 → tie.Start
+entry c = c .before .before .before .before .before .before .before .before .before .before .before .before .before
+
+content-is : (c : tie.After-content7)
+    → take (c .before .before .close .result) (c .before .before .close .last .1 .0)
+    ≡ closed (entry c .args .check) (entry c .args .head .now ++ entry c .args .«data» .now)
+unfolding entry
+content-is c =
+    let d = c .before .before .before .before .before in
+    closed-laid _ (entry c .args .check) (entry c .args .head .now) (entry c .args .«data» .now)
+    (d .before .before .before .lay .ensures)
+    (d .lay2 .ensures)
+    (c .before .before .close .ensures .1)
+    (c .before .before .close .ensures .0)
+
+length-is : (c : tie.After-content7)
+    → length (take (c .before .before .close .result) (c .before .before .close .last .1 .0))
+    ≡ length (entry c .args .head .now) + length (entry c .args .«data» .now) + checkLength (entry c .args .check)
+length-is c = rw (content-is c, length-closed, length-append)
+
 slice-aggregate-lay : tie.Need-slice-aggregate-lay
 slice-aggregate-lay c = search needs
 
--- src/frame.rt:48:5
 lay-requires : tie.Need-lay-requires
 lay-requires c κs = search needs
 
--- src/frame.rt:49:9
 slice-aggregate-lay-2 : tie.Need-slice-aggregate-lay-2
 slice-aggregate-lay-2 c = search needs
 
--- src/frame.rt:49:5
 lay-requires-2 : tie.Need-lay-requires-2
 lay-requires-2 c κs = search needs
 
--- src/frame.rt:50:28
 slice-aggregate-close : tie.Need-slice-aggregate-close
 slice-aggregate-close c = search needs
 
--- src/frame.rt:50:42
 add-close : tie.Need-add-close
 add-close c = search needs
 
--- src/frame.rt:50:9
 close-requires : tie.Need-close-requires
 close-requires c κs = search needs
 
--- src/frame.rt:51:17
 array-share-prefix-content : tie.Need-array-share-prefix-content
 array-share-prefix-content c = search needs
 
--- src/frame.rt:51:17
 slice-aggregate-write-image : tie.Need-slice-aggregate-write-image
-slice-aggregate-write-image c = ?
+unfolding entry
+slice-aggregate-write-image c = c .before .before .close .ensures .0 ∙ sym (length-is c)
 
--- src/frame.rt:51:5
 write-image-requires : tie.Need-write-image-requires
-write-image-requires c κs = ?
+unfolding entry
+write-image-requires c κs = omega (arith, length-is (c .before), entry (c .before) .pre)
 
--- src/frame.rt:43:1
 same-length : tie.Need-same-length
 same-length c = search needs
 
--- src/frame.rt:43:1
 returns : tie.Need-returns
-returns c = ?
+unfolding entry
+returns c =
+    let d = c .before .before in
+    d .write-image .ensures ∙ ap (λ (s : List ℕ). imageWritten s (entry (d .before .before) .args .out .now)) (content-is (d .before .before))
 
 pub write-frame-spec : {M : Type 1} → statement M
 write-frame-spec =

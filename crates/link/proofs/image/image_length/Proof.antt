@@ -6,11 +6,6 @@ use Rattle.link.specs.Writing.{measured}
 use borrow.Author.Needs.{needs}
 use Rattle.link.proofs.image.image_length.Statement.{statement}
 use Rattle.link.proofs.image.image_length.Tie as tie
-use Rattle.link.proofs.image.image_length.Reads as reads
-use Rattle.link.proofs.image.image_length.Lts as lts
-use Rattle.link.proofs.image.wire_length.Reads as wire-length-reads
-use Rattle.link.proofs.refusal.Counted.of.Reads as of-reads
-use Rattle.link.proofs.refusal.Counted.refused.Reads as refused-reads
 
 refused-requires : tie.Need-refused-requires
 refused-requires c κs = search needs

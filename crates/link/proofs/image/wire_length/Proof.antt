@@ -5,9 +5,6 @@ use Rattle.link.specs.Image.{imageLength}
 use borrow.Author.Needs.{needs}
 use Rattle.link.proofs.image.wire_length.Statement.{statement}
 use Rattle.link.proofs.image.wire_length.Tie as tie
-use Rattle.link.proofs.image.wire_length.Reads as reads
-use Rattle.link.proofs.image.wire_length.Lts as lts
-use Rattle.link.proofs.stuffing.specials.Reads as specials-reads
 
 add-result : tie.Need-add-result
 add-result c = search needs

@@ -18,12 +18,6 @@ use Rattle.link.proofs.Laws.Image.{room-behind, image-laid}
 use borrow.Author.Needs.{needs}
 use Rattle.link.proofs.image.write_image.Statement.{statement}
 use Rattle.link.proofs.image.write_image.Tie as tie
-use Rattle.link.proofs.image.write_image.Reads as reads
-use Rattle.link.proofs.image.write_image.Lts as lts
-use Rattle.link.proofs.image.wire_length.Reads as wire-length-reads
-use Rattle.link.proofs.refusal.Counted.of.Reads as of-reads
-use Rattle.link.proofs.refusal.Counted.refused.Reads as refused-reads
-use Rattle.link.proofs.stuffing.stuff.Reads as stuff-reads
 
 -- there is room for start, stuffing and stop
 room : (c : tie.Else1)

@@ -10,8 +10,6 @@ use Rattle.link.proofs.Laws.Lists.{drop-next}
 use Rattle.link.proofs.Laws.Laying.{laid-nil, laid-next}
 use Rattle.link.proofs.laying.lay.Statement.{statement}
 use Rattle.link.proofs.laying.lay.Tie as tie
-use Rattle.link.proofs.laying.lay.Reads as reads
-use Rattle.link.proofs.laying.lay.Lts as lts
 
 abbrev Inv-loop : tie.InvT-loop
 Inv-loop out₀ at bytes i₀ out i =

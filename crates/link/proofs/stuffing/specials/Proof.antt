@@ -10,8 +10,6 @@ use Rattle.link.proofs.Laws.Lists.{drop-next}
 use Rattle.link.proofs.Laws.Stuffing.{specials-plain, specials-special}
 use Rattle.link.proofs.stuffing.specials.Statement.{statement}
 use Rattle.link.proofs.stuffing.specials.Tie as tie
-use Rattle.link.proofs.stuffing.specials.Reads as reads
-use Rattle.link.proofs.stuffing.specials.Lts as lts
 
 abbrev Inv-loop : tie.InvT-loop
 Inv-loop content count₀ i₀ count i = (i ≤ length content) × (count ≤ i) × (count + specials (drop i content) ≡ specials content)

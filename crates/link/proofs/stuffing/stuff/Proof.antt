@@ -11,9 +11,6 @@ use Rattle.link.proofs.Laws.Lists.{drop-next}
 use Rattle.link.proofs.Laws.Laying.{laid-nil, laid-more, length-laid}
 use Rattle.link.proofs.stuffing.stuff.Statement.{statement}
 use Rattle.link.proofs.stuffing.stuff.Tie as tie
-use Rattle.link.proofs.stuffing.stuff.Reads as reads
-use Rattle.link.proofs.stuffing.stuff.Lts as lts
-use Rattle.link.proofs.stuffing.stuff_byte.Reads as stuff-byte-reads
 
 -- the stuffing of what is left begins with the next byte, stuffed
 next : (s : List ℕ) (i : ℕ) → i < length s → stuffing (drop i s) ≡ stuffed (getD s i 0) ++ stuffing (drop (i + 1) s)

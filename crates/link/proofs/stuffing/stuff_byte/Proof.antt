@@ -11,8 +11,6 @@ use Rattle.link.proofs.Laws.Laying.{set-laid, laid-next}
 use Rattle.link.proofs.Laws.Stuffing.{stuffed-plain, stuffed-special}
 use Rattle.link.proofs.stuffing.stuff_byte.Statement.{statement}
 use Rattle.link.proofs.stuffing.stuff_byte.Tie as tie
-use Rattle.link.proofs.stuffing.stuff_byte.Reads as reads
-use Rattle.link.proofs.stuffing.stuff_byte.Lts as lts
 
 plain : (c : tie.Then1) → stuffed (c .before .args .byte) ≡ c .before .args .byte ∷ []
 plain c = stuffed-plain (c .before .args .byte) (c .if1 .taken)

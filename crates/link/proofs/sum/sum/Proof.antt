@@ -8,8 +8,6 @@ use Rattle.link.specs.Sum.{total, sum}
 use Rattle.link.proofs.Laws.Lists.{drop-next}
 use Rattle.link.proofs.sum.sum.Statement.{statement}
 use Rattle.link.proofs.sum.sum.Tie as tie
-use Rattle.link.proofs.sum.sum.Reads as reads
-use Rattle.link.proofs.sum.sum.Lts as lts
 
 abbrev Inv-loop : tie.InvT-loop
 Inv-loop bytes sofar₀ i₀ sofar i =

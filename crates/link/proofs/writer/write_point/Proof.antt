@@ -1,34 +1,32 @@
+-- `writer::write_point` meets its contract, by the tests of its refusals.
+-- Assumes nothing.
+use borrow.Author.Tests.{lt-ltb, le-ltb}
+use Rattle.link.specs.Frame.{pointContent}
+use Rattle.link.specs.Writing.{pointWritten}
 use borrow.Author.Needs.{needs}
 use Rattle.link.proofs.writer.write_point.Statement.{statement}
 use Rattle.link.proofs.writer.write_point.Tie as tie
-use Rattle.link.proofs.writer.write_point.Reads as reads
-use Rattle.link.proofs.writer.write_point.Lts as lts
-use Rattle.link.proofs.frame.write_frame.Reads as write-frame-reads
-use Rattle.link.proofs.refusal.Counted.refused.Reads as refused-reads
 
--- src/writer.rt:17:9
 refused-requires : tie.Need-refused-requires
 refused-requires c κs = search needs
 
--- src/writer.rt:17:9
 returns : tie.Need-returns
-returns c = ?
+unfolding pointWritten
+returns c = simp (lt-ltb _ _ (c .before .if1 .taken), c .refused .ensures)
 
--- src/writer.rt:19:29
 slice-aggregate-write-frame : tie.Need-slice-aggregate-write-frame
 slice-aggregate-write-frame c = search needs
 
--- src/writer.rt:19:5
 write-frame-requires : tie.Need-write-frame-requires
 write-frame-requires c κs = search needs
 
--- src/writer.rt:13:1
 same-length : tie.Need-same-length
 same-length c = search needs
 
--- src/writer.rt:13:1
 returns-2 : tie.Need-returns-2
-returns-2 c = ?
+unfolding pointWritten pointContent
+returns-2 c =
+    simp (le-ltb _ _ (c .before .before .before .before .before .if1 .left)) (c .before .before .write-frame .ensures)
 
 pub write-point-spec : {M : Type 1} → statement M
 write-point-spec =
