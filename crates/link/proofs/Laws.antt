@@ -4,6 +4,11 @@ pub mod Lists
 pub mod Table
 pub mod Laying
 pub mod Stuffing
+pub mod Unstuffing
 pub mod Image
+pub mod Xor
+pub mod Fcs
 pub mod Frame
+pub mod Writing
+pub mod Address
 pub mod Examples

@@ -28,12 +28,18 @@ unfoldable pub specials : List ℕ → ℕ
 specials [] = 0
 specials (b ∷ bs) = pick (special b) 1 0 + specials bs
 
--- Stuffing undone. FF and its partner 00, 01 or 02 give FF, FE or FD (01, How the receiver moves, rule 3); another partner, or
--- none, is no content.
+-- Stuffing undone; the test says whether an FF waits for its partner. 00, 01 and 02 give FF, FE and FD (01, How the receiver
+-- moves, rule 3); another partner, or none, is no content.
+unfoldable pub undo : Bool → List ℕ → Option (List ℕ)
+undo false [] = some []
+undo false (b ∷ bs) =
+    let pair = undo true bs in
+    let plain = Option·map (λ c. b ∷ c) (undo false bs) in
+    pick (eqb b 0xFF) pair plain
+undo true [] = none
+undo true (p ∷ bs) =
+    let known = Option·map (λ c. (0xFF - p) ∷ c) (undo false bs) in
+    pick (leb p 0x02) known none
+
 unfoldable pub unstuffing : List ℕ → Option (List ℕ)
-unstuffing [] = some []
-unstuffing (b ∷ []) = pick (eqb b 0xFF) none (some (b ∷ []))
-unstuffing (b ∷ p ∷ rest) = elim (eqb b 0xFF) [
-  | true ↦ elim (leb p 0x02) [ true ↦ Option·map (λ c. (0xFF - p) ∷ c) (unstuffing rest) | false ↦ none ]
-  | false ↦ Option·map (λ c. b ∷ c) (unstuffing (p ∷ rest))
-]
+unstuffing wire = undo false wire

@@ -4,11 +4,11 @@ use mathlib.Core.Path.{_≡_, _∙_}
 use mathlib.Core.List.{List, [], _∷_, _++_}
 use Prim.Native.Nat.{ℕ, _+_, _≤_, _<_}
 use native.Mathlib.Omega.{arith}
-use lib.ListN.{length, set, length-append, length-set}
+use lib.ListN.{length, drop, set, length-append, length-set}
 use Rattle.link.specs.Laying.{laid}
 use Rattle.link.specs.Stuffing.{stuffing, specials}
 use Rattle.link.specs.Image.{start, stop, image, imageLength}
-use Rattle.link.proofs.Laws.Laying.{laid-more, laid-next, length-laid, set-laid}
+use Rattle.link.proofs.Laws.Laying.{laid-more, laid-next, laid-front, length-laid, set-laid}
 use Rattle.link.proofs.Laws.Stuffing.{length-stuffing}
 
 -- the image is as long as its length says
@@ -21,14 +21,16 @@ unfolding imageLength
 room-behind content = omega (arith, length-stuffing content)
 
 -- start, then the stuffing in the room behind it, then stop: the image stands in front
-pub image-laid : (content out : List ℕ) → imageLength content ≤ length out
-    → set (laid (set out 0 start) 1 (stuffing content)) (1 + length (stuffing content)) stop ≡ laid out 0 (image content)
+pub image-laid : (content out : List ℕ) → length (image content) ≤ length out
+    → set (laid (set out 0 start) 1 (stuffing content)) (1 + length (stuffing content)) stop
+    ≡ image content ++ drop (length (image content)) out
 unfolding image
 image-laid content out h =
     let S = stuffing content in
-    let room : 2 + length S ≤ length out = omega (arith, room-behind content) in
+    let room : 2 + length S ≤ length out = omega (arith, room-behind content, length-image content) in
     let out₁ : List ℕ = set out 0 start in
     let same : length out₁ ≡ length out = length-set out 0 start in
     set-laid (laid out₁ 1 S) (1 + length S) stop (rw (length-laid out₁ 1 S (omega arith)) (omega arith))
     ∙ laid-more out₁ 1 S (stop ∷ []) (omega arith)
     ∙ laid-next out 0 start (S ++ (stop ∷ [])) (omega arith)
+    ∙ laid-front out (start ∷ S ++ (stop ∷ []))

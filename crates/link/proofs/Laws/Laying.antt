@@ -44,6 +44,11 @@ laid-more l at x y h =
     ap₂ (λ (a b : List ℕ). a ++ (y ++ b)) (take-laid l at x h) (drop-laid l at x (length y) h)
     ∙ simp (append-assoc, length-append, add-assoc)
 
+-- what is laid at the front stands before what was behind it
+pub laid-front : (l x : List ℕ) → laid l 0 x ≡ x ++ drop (length x) l
+unfolding laid
+laid-front l x = rw zero-add
+
 -- the same two laws at the front of a buffer
 pub take-front : (l x : List ℕ) → take (length x) (laid l 0 x) ≡ x
 take-front l x = rw (zero-add (length x)) at (take-laid l 0 x zero-le)

@@ -2,17 +2,19 @@
 -- Assumes nothing.
 use mathlib.Core.Path.{_≡_, refl, sym, ap, _∙_, subst}
 use mathlib.Core.Bool.{Bool, true, false}
-use mathlib.Core.List.{List, [], _∷_, _++_, List·Memᴰ, List·Memᴰ·append-cases}
-use mathlib.Core.Option.{Option, none, some, Option·map}
+use mathlib.Core.List.{List, [], _∷_, _++_, List·Memᴰ, List·Memᴰ·not-nil, List·Memᴰ·cases-cons, List·Memᴰ·append-cases}
+use mathlib.Core.Logic.{⊎-elim}
 use Prim.Native.Nat.{ℕ, _+_, _-_, _≤_, _<_}
 use native.Mathlib.Nat.{zero-add}
 use native.Mathlib.Decide.{decLe}
 use native.Mathlib.Omega.{arith}
-use lib.Dec.{eqb}
+use lib.Dec.{eqb, lit≤}
 use lib.ListN.{length, length-append}
-use borrow.Author.Tests.{ne-eqb}
+use borrow.Author.Tests.{ne-eqb, eqb-false}
 use Rattle.link.specs.Choice.{pick, either}
-use Rattle.link.specs.Stuffing.{stuffed, stuffing, special, specials, unstuffing}
+use Rattle.link.specs.Stuffing.{stuffed, stuffing, special, specials}
+use Rattle.link.specs.Image.{start, stop}
+use Rattle.link.proofs.Laws.Choice.{pick-elim}
 
 -- what holds of FD, FE and FF holds of every byte from FD on
 by-special : (P : ℕ → Type 0) (b : ℕ) → 0xFD ≤ b → b < 0x100 → P 0xFD → P 0xFE → P 0xFF → P b
@@ -62,3 +64,33 @@ pub length-stuffing : (content : List ℕ) → length (stuffing content) ≡ len
 unfolding stuffing specials
 length-stuffing [] = refl
 length-stuffing (b ∷ bs) = simp length-append (omega (arith, length-stuffed b, length-stuffing bs))
+
+-- neither start nor stop
+abbrev pub Within : ℕ → Type 0
+Within b = (b ≡ start → ⊥) × (b ≡ stop → ⊥)
+
+pair-within : (p : ℕ) → p ≤ 0x02 → (x : ℕ) → List·Memᴰ x (0xFF ∷ p ∷ []) → Within x
+pair-within p h x m =
+    ⊎-elim (λ e. omega arith)
+    (λ n. ⊎-elim (λ e. omega arith) (λ o. absurd (List·Memᴰ·not-nil o)) (List·Memᴰ·cases-cons n))
+    (List·Memᴰ·cases-cons m)
+
+stuffed-within : (b x : ℕ) → List·Memᴰ x (stuffed b) → Within x
+unfolding stuffed
+stuffed-within b x =
+    pick-elim P (eqb b 0xFD) (λ t. pair-within 0x02 (lit≤ tt) x)
+    (λ fd. pick-elim P (eqb b 0xFE) (λ t. pair-within 0x01 (lit≤ tt) x)
+    (λ fe. pick-elim P (eqb b 0xFF) (λ t. pair-within 0x00 (lit≤ tt) x)
+    (λ ff m. ⊎-elim
+    (λ e. (λ s. eqb-false b 0xFD fd (sym e ∙ s), λ s. eqb-false b 0xFE fe (sym e ∙ s)))
+    (λ o. absurd (List·Memᴰ·not-nil o))
+    (List·Memᴰ·cases-cons m))))
+  where
+    P : List ℕ → Type 0
+    P l = List·Memᴰ x l → Within x
+
+-- stuffing has no FD and no FE in it
+pub stuffing-within : (content : List ℕ) (x : ℕ) → List·Memᴰ x (stuffing content) → Within x
+unfolding stuffing
+stuffing-within [] x m = absurd (List·Memᴰ·not-nil m)
+stuffing-within (b ∷ bs) x m = ⊎-elim (stuffed-within b x) (stuffing-within bs x) (List·Memᴰ·append-cases (stuffed b) m)

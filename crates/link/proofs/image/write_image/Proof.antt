@@ -1,6 +1,6 @@
 -- `image::write_image` meets its contract: start, the stuffing in the part lent from index one on, stop.
 -- Assumes nothing.
-use mathlib.Core.Path.{_≡_, ap, ap₂, _∙_}
+use mathlib.Core.Path.{_≡_, sym, ap, ap₂, _∙_}
 use mathlib.Core.List.{List}
 use Prim.Native.Nat.{ℕ, _+_, _-_, _≤_, _<_}
 use native.Mathlib.Omega.{arith}
@@ -10,11 +10,11 @@ use lib.ListN.{length, set, length-set, length-take, length-drop}
 use Rattle.link.specs.declared.refusal.Counted.{Counted}
 use Rattle.link.specs.Laying.{laid}
 use Rattle.link.specs.Stuffing.{stuffing}
-use Rattle.link.specs.Image.{start, stop, imageLength}
+use Rattle.link.specs.Image.{start, stop, image}
 use Rattle.link.specs.Refusals.{counted}
 use Rattle.link.specs.Writing.{left, imageWritten}
 use Rattle.link.proofs.Laws.Laying.{laid-part, length-laid}
-use Rattle.link.proofs.Laws.Image.{room-behind, image-laid}
+use Rattle.link.proofs.Laws.Image.{length-image, room-behind, image-laid}
 use borrow.Author.Needs.{needs}
 use Rattle.link.proofs.image.write_image.Statement.{statement}
 use Rattle.link.proofs.image.write_image.Tie as tie
@@ -57,7 +57,7 @@ returns : tie.Need-returns
 unfolding imageWritten
 returns c =
     let d = c .before .before .before .before .before in
-    let h : length (d .args .out .now) < imageLength (d .args .content .now) = omega arith in
+    let h : length (d .args .out .now) < length (image (d .args .content .now)) = omega (arith, length-image (d .args .content .now)) in
     simp (lt-ltb _ _ h) (ap (λ (a : Counted). left a (d .args .out .now)) (c .refused .ensures))
 
 slice-write-out : tie.Need-slice-write-out
@@ -94,10 +94,10 @@ unfolding imageWritten
 returns-2 c =
     let d = c .before .before .before .before .before .before .before .before .before in
     let content = d .args .content .now in
-    let h : imageLength content ≤ length (d .args .out .now) = omega arith in
+    let h : length (image content) ≤ length (d .args .out .now) = omega (arith, length-image content) in
     simp (le-ltb _ _ h)
     (ap₂ left
-    (c .of .ensures ∙ ap counted (c .before .before .before .before .before .before .wire-length .ensures))
+    (c .of .ensures ∙ ap counted (c .before .before .before .before .before .before .wire-length .ensures ∙ sym (length-image content)))
     (ap₂ (λ (l : List ℕ) (k : ℕ). set l (1 + k) stop) (back (c .before)) (c .before .before .before .stuff .ensures .0)
     ∙ image-laid content (d .args .out .now) h))
 

@@ -2,7 +2,7 @@
 -- Assumes nothing.
 use borrow.Author.Tests.{lt-ltb, le-ltb}
 use Rattle.link.specs.Frame.{addressedContent}
-use Rattle.link.specs.Writing.{addressedWritten}
+use Rattle.link.specs.Writing.{written, addressedWritten}
 use borrow.Author.Needs.{needs}
 use Rattle.link.proofs.writer.write_addressed.Statement.{statement}
 use Rattle.link.proofs.writer.write_addressed.Tie as tie
@@ -11,14 +11,14 @@ refused-requires : tie.Need-refused-requires
 refused-requires c κs = search needs
 
 returns : tie.Need-returns
-unfolding addressedWritten
+unfolding written addressedWritten
 returns c = simp (lt-ltb _ _ (c .before .if1 .taken), c .refused .ensures)
 
 refused-requires-2 : tie.Need-refused-requires-2
 refused-requires-2 c κs = search needs
 
 returns-2 : tie.Need-returns-2
-unfolding addressedWritten
+unfolding written addressedWritten
 returns-2 c =
     simp (le-ltb _ _ (c .before .before .if1 .left), lt-ltb _ _ (c .before .if2 .taken), c .refused2 .ensures)
 
@@ -32,7 +32,7 @@ same-length : tie.Need-same-length
 same-length c = search needs
 
 returns-3 : tie.Need-returns-3
-unfolding addressedWritten addressedContent
+unfolding written addressedWritten addressedContent
 returns-3 c =
     let d = c .before .before .before .before .before in
     simp (le-ltb _ _ (d .before .if1 .left), le-ltb _ _ (d .if2 .left)) (c .before .before .write-frame .ensures)

@@ -2,7 +2,7 @@
 -- Assumes nothing.
 use borrow.Author.Tests.{lt-ltb, le-ltb}
 use Rattle.link.specs.Frame.{pointContent}
-use Rattle.link.specs.Writing.{pointWritten}
+use Rattle.link.specs.Writing.{written, pointWritten}
 use borrow.Author.Needs.{needs}
 use Rattle.link.proofs.writer.write_point.Statement.{statement}
 use Rattle.link.proofs.writer.write_point.Tie as tie
@@ -11,7 +11,7 @@ refused-requires : tie.Need-refused-requires
 refused-requires c κs = search needs
 
 returns : tie.Need-returns
-unfolding pointWritten
+unfolding written pointWritten
 returns c = simp (lt-ltb _ _ (c .before .if1 .taken), c .refused .ensures)
 
 slice-aggregate-write-frame : tie.Need-slice-aggregate-write-frame
@@ -24,7 +24,7 @@ same-length : tie.Need-same-length
 same-length c = search needs
 
 returns-2 : tie.Need-returns-2
-unfolding pointWritten pointContent
+unfolding written pointWritten pointContent
 returns-2 c =
     simp (le-ltb _ _ (c .before .before .before .before .before .if1 .left)) (c .before .before .write-frame .ensures)
 
