@@ -11,4 +11,5 @@ pub mod Fcs
 pub mod Frame
 pub mod Writing
 pub mod Address
+pub mod Unique
 pub mod Examples
