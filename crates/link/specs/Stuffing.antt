@@ -1,6 +1,6 @@
 -- Stuffing: how content travels so that FD and FE stand in a frame only as its start and its stop.
 -- 01, Layout of a frame; 000 and 001, 'Байтстаффинг'. Assumes nothing.
-use Prim.Native.Nat.{ℕ, suc, _+_, _-_}
+use Prim.Native.Nat.{ℕ, _+_, _-_}
 use mathlib.Core.Bool.{Bool, true, false}
 use mathlib.Core.List.{List, [], _∷_, _++_}
 use mathlib.Core.Option.{Option, none, some, Option·map}

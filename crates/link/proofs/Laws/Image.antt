@@ -2,11 +2,11 @@
 -- Assumes nothing.
 use mathlib.Core.Path.{_≡_, _∙_}
 use mathlib.Core.List.{List, [], _∷_, _++_}
-use Prim.Native.Nat.{ℕ, _+_, _≤_, _<_}
+use Prim.Native.Nat.{ℕ, _+_, _≤_}
 use native.Mathlib.Omega.{arith}
 use lib.ListN.{length, drop, set, length-append, length-set}
 use Rattle.link.specs.Laying.{laid}
-use Rattle.link.specs.Stuffing.{stuffing, specials}
+use Rattle.link.specs.Stuffing.{stuffing}
 use Rattle.link.specs.Image.{start, stop, image, imageLength}
 use Rattle.link.proofs.Laws.Laying.{laid-more, laid-next, laid-front, length-laid, set-laid}
 use Rattle.link.proofs.Laws.Stuffing.{length-stuffing}

@@ -1,7 +1,7 @@
 -- A table worked out beforehand: it is the list of a function's values at 0, 1, 2 and so on, which antt computes once for the whole
 -- table, and so each entry is the function's value at its place.
 -- Assumes nothing.
-use mathlib.Core.Path.{_≡_, refl, ap, _∙_}
+use mathlib.Core.Path.{_≡_, ap, _∙_}
 use mathlib.Core.List.{List, [], _∷_}
 use Prim.Native.Nat.{ℕ, zero, suc, _+_, _<_}
 use native.Mathlib.Nat.{zero-add, add-zero, add-suc, suc-add, le-of-suc-le-suc, not-suc-le-zero}

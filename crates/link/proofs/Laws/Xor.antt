@@ -4,7 +4,7 @@ use mathlib.Core.Path.{_≡_, refl, sym, ap, ap₂, _∙_}
 use Prim.Native.Nat.{ℕ, zero, suc, _+_, _*_, _/_, _%_, _<_}
 use native.Mathlib.Omega.{arith}
 use lib.Arith.{bin-ind}
-use lib.Bits.{bitXor, differ, xor-step, xor-shr, xor-mod, xor-zero-l, xor-zero-r, xor-comm, xor-self}
+use lib.Bits.{bitXor, differ, xor-step, xor-shr, xor-mod, xor-zero-r, xor-comm, xor-self}
 
 -- what holds of 0 and 1 holds of a low bit
 by-bit : (P : ℕ → Type 0) (n : ℕ) → P 0 → P 1 → P (n % 2)

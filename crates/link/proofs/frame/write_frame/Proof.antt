@@ -2,12 +2,11 @@
 -- Assumes nothing.
 use mathlib.Core.Path.{_≡_, sym, ap, _∙_}
 use mathlib.Core.List.{List, _++_}
-use Prim.Native.Nat.{ℕ, _+_, _≤_}
+use Prim.Native.Nat.{ℕ, _+_}
 use native.Mathlib.Omega.{arith}
 use borrow.Author.Needs.{needs}
 use lib.ListN.{length, take, length-append}
-use Rattle.link.specs.Laying.{laid}
-use Rattle.link.specs.Frame.{checkOf, checkLength, closed}
+use Rattle.link.specs.Frame.{checkLength, closed}
 use Rattle.link.specs.Writing.{imageWritten}
 use Rattle.link.proofs.Laws.Frame.{length-closed, closed-laid}
 use Rattle.link.proofs.frame.write_frame.Statement.{statement}

@@ -1,7 +1,10 @@
 -- `image::image_length` meets its contract, by the test on the limit.
 -- Assumes nothing.
-use mathlib.Core.Path.{ap, _∙_}
+use Prim.Native.Nat.{_≤_, _<_}
+use native.Mathlib.Omega.{arith}
+use lib.ListN.{length}
 use borrow.Author.Tests.{lt-ltb, le-ltb}
+use Rattle.link.specs.Limits.{mostContent}
 use Rattle.link.specs.Writing.{measured}
 use borrow.Author.Needs.{needs}
 use Rattle.link.proofs.image.image_length.Statement.{statement}
@@ -12,7 +15,9 @@ refused-requires c κs = search needs
 
 returns : tie.Need-returns
 unfolding measured
-returns c = simp (lt-ltb _ _ (c .before .if1 .taken)) (c .refused .ensures)
+returns c =
+    let h : mostContent < length (c .before .before .before .args .content .now) = omega arith in
+    simp (lt-ltb _ _ h) (c .refused .ensures)
 
 wire-length-requires : tie.Need-wire-length-requires
 wire-length-requires c κs = search needs
@@ -22,7 +27,9 @@ of-requires c κs = search needs
 
 returns-2 : tie.Need-returns-2
 unfolding measured
-returns-2 c = simp (le-ltb _ _ (c .before .before .if1 .left), ← c .before .wire-length .ensures) (c .of .ensures)
+returns-2 c =
+    let h : length (c .before .before .before .before .args .content .now) ≤ mostContent = omega arith in
+    simp (le-ltb _ _ h, ← c .before .wire-length .ensures) (c .of .ensures)
 
 pub image-length-spec : {M : Type 1} → statement M
 image-length-spec =

@@ -5,7 +5,7 @@ use mathlib.Core.List.{List}
 use Prim.Native.Nat.{ℕ, _+_, _-_, _≤_, _<_}
 use native.Mathlib.Omega.{arith}
 use borrow.Author.Tests.{lt-ltb, le-ltb}
-use borrow.Rule.Slice.PartMut.{putMid, same-len-mid}
+use borrow.Rule.Slice.PartMut.{putMid}
 use lib.ListN.{length, set, length-set, length-take, length-drop}
 use Rattle.link.specs.declared.refusal.Counted.{Counted}
 use Rattle.link.specs.Laying.{laid}

@@ -8,7 +8,7 @@ use lib.ListN.{length, drop, getD, length-append, drop-of-length-le}
 use Rattle.link.specs.Laying.{laid}
 use Rattle.link.specs.Stuffing.{stuffed, stuffing}
 use Rattle.link.proofs.Laws.Lists.{drop-next}
-use Rattle.link.proofs.Laws.Laying.{laid-nil, laid-more, length-laid}
+use Rattle.link.proofs.Laws.Laying.{laid-nil, laid-more}
 use Rattle.link.proofs.stuffing.stuff.Statement.{statement}
 use Rattle.link.proofs.stuffing.stuff.Tie as tie
 

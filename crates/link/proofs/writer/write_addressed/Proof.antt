@@ -1,9 +1,15 @@
--- `writer::write_addressed` meets its contract, by the tests of its refusals.
+-- `writer::write_addressed` meets its contract: each test of its refusals is a row of the refusal table.
 -- Assumes nothing.
-use borrow.Author.Tests.{lt-ltb, le-ltb}
-use Rattle.link.specs.Frame.{addressedContent}
-use Rattle.link.specs.Writing.{written, addressedWritten}
+use mathlib.Core.Path.{sym, _∙_}
+use Prim.Native.Nat.{_≤_, _<_}
+use native.Mathlib.Omega.{arith}
 use borrow.Author.Needs.{needs}
+use borrow.Author.Tests.{lt-ltb, le-ltb}
+use lib.ListN.{length}
+use Rattle.link.specs.Limits.{mostData}
+use Rattle.link.specs.Frame.{addressedContent}
+use Rattle.link.specs.Writing.{addressedWritten}
+use Rattle.link.proofs.Laws.Writing.{refuses-length, refuses-address, goes-on}
 use Rattle.link.proofs.writer.write_addressed.Statement.{statement}
 use Rattle.link.proofs.writer.write_addressed.Tie as tie
 
@@ -11,16 +17,21 @@ refused-requires : tie.Need-refused-requires
 refused-requires c κs = search needs
 
 returns : tie.Need-returns
-unfolding written addressedWritten
-returns c = simp (lt-ltb _ _ (c .before .if1 .taken), c .refused .ensures)
+unfolding addressedWritten
+returns c =
+    let h : mostData < length (c .before .before .before .before .args .«data» .now) = omega arith in
+    rw (c .refused .ensures, refuses-length)
 
 refused-requires-2 : tie.Need-refused-requires-2
 refused-requires-2 c κs = search needs
 
 returns-2 : tie.Need-returns-2
-unfolding written addressedWritten
+unfolding addressedWritten
 returns-2 c =
-    simp (le-ltb _ _ (c .before .before .if1 .left), lt-ltb _ _ (c .before .if2 .taken), c .refused2 .ensures)
+    let d = c .before .before .before .before .before in
+    let h : length (d .args .«data» .now) ≤ mostData = omega arith in
+    let never : 0xFC < d .args .address = omega arith in
+    rw (c .refused2 .ensures, refuses-address, h, lt-ltb 0xFC (d .args .address) never)
 
 slice-aggregate-write-frame : tie.Need-slice-aggregate-write-frame
 slice-aggregate-write-frame c = search needs
@@ -32,10 +43,12 @@ same-length : tie.Need-same-length
 same-length c = search needs
 
 returns-3 : tie.Need-returns-3
-unfolding written addressedWritten addressedContent
+unfolding addressedWritten addressedContent
 returns-3 c =
-    let d = c .before .before .before .before .before in
-    simp (le-ltb _ _ (d .before .if1 .left), le-ltb _ _ (d .if2 .left)) (c .before .before .write-frame .ensures)
+    let d = c .before .before .before .before .before .before .before .before .before in
+    let h : length (d .args .«data» .now) ≤ mostData = omega arith in
+    let kept : d .args .address ≤ 0xFC = omega arith in
+    c .before .before .write-frame .ensures ∙ sym (goes-on _ _ _ _ h (le-ltb 0xFC (d .args .address) kept))
 
 pub write-addressed-spec : {M : Type 1} → statement M
 write-addressed-spec =

@@ -1,9 +1,15 @@
--- `writer::write_point` meets its contract, by the tests of its refusals.
+-- `writer::write_point` meets its contract: each test of its refusals is a row of the refusal table.
 -- Assumes nothing.
-use borrow.Author.Tests.{lt-ltb, le-ltb}
-use Rattle.link.specs.Frame.{pointContent}
-use Rattle.link.specs.Writing.{written, pointWritten}
+use mathlib.Core.Path.{refl, sym, _∙_}
+use mathlib.Core.Bool.{false}
+use Prim.Native.Nat.{_≤_, _<_}
+use native.Mathlib.Omega.{arith}
 use borrow.Author.Needs.{needs}
+use lib.ListN.{length}
+use Rattle.link.specs.Limits.{mostData}
+use Rattle.link.specs.Frame.{pointContent}
+use Rattle.link.specs.Writing.{pointWritten}
+use Rattle.link.proofs.Laws.Writing.{refuses-length, goes-on}
 use Rattle.link.proofs.writer.write_point.Statement.{statement}
 use Rattle.link.proofs.writer.write_point.Tie as tie
 
@@ -11,8 +17,10 @@ refused-requires : tie.Need-refused-requires
 refused-requires c κs = search needs
 
 returns : tie.Need-returns
-unfolding written pointWritten
-returns c = simp (lt-ltb _ _ (c .before .if1 .taken), c .refused .ensures)
+unfolding pointWritten
+returns c =
+    let h : mostData < length (c .before .before .before .before .args .«data» .now) = omega arith in
+    rw (c .refused .ensures, refuses-length)
 
 slice-aggregate-write-frame : tie.Need-slice-aggregate-write-frame
 slice-aggregate-write-frame c = search needs
@@ -24,9 +32,11 @@ same-length : tie.Need-same-length
 same-length c = search needs
 
 returns-2 : tie.Need-returns-2
-unfolding written pointWritten pointContent
+unfolding pointWritten pointContent
 returns-2 c =
-    simp (le-ltb _ _ (c .before .before .before .before .before .if1 .left)) (c .before .before .write-frame .ensures)
+    let d = c .before .before .before .before .before in
+    let h : length (d .before .before .before .args .«data» .now) ≤ mostData = omega arith in
+    c .before .before .write-frame .ensures ∙ sym (goes-on false _ _ _ h refl)
 
 pub write-point-spec : {M : Type 1} → statement M
 write-point-spec =
