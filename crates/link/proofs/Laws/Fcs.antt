@@ -72,9 +72,9 @@ constant : bitXor (shiftSteps 8 (bitAnd (bitXor 0xFF (shiftSteps 8 0xFF)) 0xFF))
 unfolding shiftStep shiftSteps
 constant = refl
 
-pub good : (content : List ℕ) → residue (content ++ fcsBytes content) ≡ goodResidue
+pub good-residue : (content : List ℕ) → residue (content ++ fcsBytes content) ≡ goodResidue
 unfolding run residue fcs fcsBytes
-good content =
+good-residue content =
     let v = residue content in
     run-append 0xFFFF content (fcsBytes content)
     ∙ ap (λ (w : ℕ). byteStep w (bitXor v 0xFFFF / 0x100)) (low-step v)

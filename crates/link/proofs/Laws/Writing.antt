@@ -10,8 +10,10 @@ use borrow.Author.Tests.{ltb-true, ltb-false, lt-ltb, le-ltb}
 use Rattle.link.specs.declared.refusal.Refusal.the-variants.{TooLong, BadAddress}
 use Rattle.link.specs.Limits.{mostData}
 use Rattle.link.specs.Image.{image}
+use Rattle.link.specs.Address.{isNever}
+use Rattle.link.specs.Frame.{pointContent, addressedContent}
 use Rattle.link.specs.Refusals.{refused, counted}
-use Rattle.link.specs.Writing.{Left, left, imageWritten, written, Told, tooLong, noAddress, noRoom, wrote}
+use Rattle.link.specs.Writing.{Left, left, imageWritten, written, pointWritten, addressedWritten, Told, tooLong, noAddress, noRoom, wrote}
 use Rattle.link.proofs.Laws.Choice.{pick-elim}
 
 module _ (badAddress : Bool) (bytes content out : List ℕ) where
@@ -46,3 +48,15 @@ module _ (badAddress : Bool) (bytes content out : List ℕ) where
     where
       P : Left → Type 0
       P = Told badAddress bytes content out
+
+pub point-told : (identifier command : ℕ) (bytes out : List ℕ)
+    → Told false bytes (pointContent identifier command bytes) out (pointWritten identifier command bytes out)
+unfolding pointWritten
+point-told identifier command bytes out = told false bytes (pointContent identifier command bytes) out
+
+pub addressed-told : (address identifier command : ℕ) (bytes out : List ℕ)
+    → Told (isNever address) bytes (addressedContent address identifier command bytes) out
+    (addressedWritten address identifier command bytes out)
+unfolding addressedWritten
+addressed-told address identifier command bytes out =
+    told (isNever address) bytes (addressedContent address identifier command bytes) out
