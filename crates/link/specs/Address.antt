@@ -1,9 +1,8 @@
 -- The addresses of the addressed line: each byte is the master's, broadcast, a reader's own, or never an address.
 -- 01, Layout of a frame, 'Addresses'; 000, 'Транспортный уровень'. Assumes nothing.
 use Prim.Native.Nat.{ℕ}
-use mathlib.Core.Bool.{Bool}
+use mathlib.Core.Bool.{Bool, _||_, _&&_}
 use lib.Dec.{eqb, leb, ltb}
-use Rattle.link.specs.Choice.{either, both}
 
 -- 00 is the master
 abbrev pub isMaster : ℕ → Bool
@@ -15,7 +14,7 @@ isBroadcast a = eqb a 0x7F
 
 -- a reader's own address is 01..7E or 80..FC
 abbrev pub isOwn : ℕ → Bool
-isOwn a = either (both (leb 0x01 a) (leb a 0x7E)) (both (leb 0x80 a) (leb a 0xFC))
+isOwn a = leb 0x01 a && leb a 0x7E || leb 0x80 a && leb a 0xFC
 
 -- FD, FE and FF are never addresses
 abbrev pub isNever : ℕ → Bool

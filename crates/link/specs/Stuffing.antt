@@ -1,18 +1,17 @@
 -- Stuffing: how content travels so that FD and FE stand in a frame only as its start and its stop.
 -- 01, Layout of a frame; 000 and 001, 'Байтстаффинг'. Assumes nothing.
 use Prim.Native.Nat.{ℕ, _+_, _-_}
-use mathlib.Core.Bool.{Bool, true, false}
+use mathlib.Core.Bool.{Bool, true, false, cond, _||_}
 use mathlib.Core.List.{List, [], _∷_, _++_}
 use mathlib.Core.Option.{Option, none, some, Option·map}
 use lib.Dec.{eqb, leb}
-use Rattle.link.specs.Choice.{pick, either}
 
 -- FD becomes FF 02, FE becomes FF 01, FF becomes FF 00, every other byte stands for itself
 unfoldable pub stuffed : ℕ → List ℕ
 stuffed b =
-    pick (eqb b 0xFD) (0xFF ∷ 0x02 ∷ [])
-    (pick (eqb b 0xFE) (0xFF ∷ 0x01 ∷ [])
-    (pick (eqb b 0xFF) (0xFF ∷ 0x00 ∷ []) (b ∷ [])))
+    cond (eqb b 0xFD) (0xFF ∷ 0x02 ∷ [])
+    (cond (eqb b 0xFE) (0xFF ∷ 0x01 ∷ [])
+    (cond (eqb b 0xFF) (0xFF ∷ 0x00 ∷ []) (b ∷ [])))
 
 -- a content, byte for byte
 unfoldable pub stuffing : List ℕ → List ℕ
@@ -21,12 +20,12 @@ stuffing (b ∷ bs) = stuffed b ++ stuffing bs
 
 -- FD, FE or FF, which travel as two bytes
 abbrev pub special : ℕ → Bool
-special b = either (eqb b 0xFD) (either (eqb b 0xFE) (eqb b 0xFF))
+special b = eqb b 0xFD || eqb b 0xFE || eqb b 0xFF
 
 -- how many of them a content has
 unfoldable pub specials : List ℕ → ℕ
 specials [] = 0
-specials (b ∷ bs) = pick (special b) 1 0 + specials bs
+specials (b ∷ bs) = cond (special b) 1 0 + specials bs
 
 -- Stuffing undone; the test says whether an FF waits for its partner. 00, 01 and 02 give FF, FE and FD (01, How the receiver
 -- moves, rule 3); another partner, or none, is no content.
@@ -35,11 +34,11 @@ undo false [] = some []
 undo false (b ∷ bs) =
     let pair = undo true bs in
     let plain = Option·map (λ c. b ∷ c) (undo false bs) in
-    pick (eqb b 0xFF) pair plain
+    cond (eqb b 0xFF) pair plain
 undo true [] = none
 undo true (p ∷ bs) =
     let known = Option·map (λ c. (0xFF - p) ∷ c) (undo false bs) in
-    pick (leb p 0x02) known none
+    cond (leb p 0x02) known none
 
 unfoldable pub unstuffing : List ℕ → Option (List ℕ)
 unstuffing wire = undo false wire

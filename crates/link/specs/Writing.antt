@@ -2,13 +2,12 @@
 -- 01, Layout of a frame, the last paragraph, and Refusal numbers. Assumes nothing.
 use Prim.Native.Nat.{ℕ, _≤_, _<_}
 use mathlib.Core.Path.{_≡_}
-use mathlib.Core.Bool.{Bool, true, false}
+use mathlib.Core.Bool.{Bool, true, false, cond}
 use mathlib.Core.List.{List, _++_}
 use lib.Dec.{ltb}
 use lib.ListN.{length, drop}
 use Rattle.link.specs.declared.refusal.Refusal.the-variants.{NoRoom, TooLong, BadAddress}
 use Rattle.link.specs.declared.refusal.Counted.{Counted}
-use Rattle.link.specs.Choice.{pick}
 use Rattle.link.specs.Limits.{mostContent, mostData}
 use Rattle.link.specs.Image.{image, imageLength}
 use Rattle.link.specs.Address.{isNever}
@@ -25,20 +24,20 @@ left answer out = record { answer = answer; out = out }
 
 -- the length asked for a content: content over 64 is TooLong
 unfoldable pub measured : List ℕ → Counted
-measured content = pick (ltb mostContent (length content)) (refused TooLong) (counted (imageLength content))
+measured content = cond (ltb mostContent (length content)) (refused TooLong) (counted (imageLength content))
 
 -- out shorter than the image is NoRoom; else the image stands in front, the bytes behind it stay as they were, and the count is its
 -- length
 unfoldable pub imageWritten : List ℕ → List ℕ → Left
 imageWritten content out =
-    pick (ltb (length out) (length (image content))) (left (refused NoRoom) out)
+    cond (ltb (length out) (length (image content))) (left (refused NoRoom) out)
     (left (counted (length (image content))) (image content ++ drop (length (image content)) out))
 
 -- a writer: refusals in the order 2, 3, 1, then the image
 unfoldable pub written : Bool → List ℕ → List ℕ → List ℕ → Left
 written badAddress bytes content out =
-    pick (ltb mostData (length bytes)) (left (refused TooLong) out)
-    (pick badAddress (left (refused BadAddress) out) (imageWritten content out))
+    cond (ltb mostData (length bytes)) (left (refused TooLong) out)
+    (cond badAddress (left (refused BadAddress) out) (imageWritten content out))
 
 -- a point frame has no address to refuse
 unfoldable pub pointWritten : ℕ → ℕ → List ℕ → List ℕ → Left

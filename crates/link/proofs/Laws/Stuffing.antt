@@ -1,7 +1,7 @@
 -- Laws of stuffing: what it has in it, how long it is, and that it can be undone.
 -- Assumes nothing.
 use mathlib.Core.Path.{_≡_, refl, sym, _∙_, subst}
-use mathlib.Core.Bool.{Bool, true, false}
+use mathlib.Core.Bool.{Bool, true, false, cond, _||_}
 use mathlib.Core.List.{List, [], _∷_, List·Memᴰ, List·Memᴰ·not-nil, List·Memᴰ·cases-cons, List·Memᴰ·append-cases}
 use mathlib.Core.Logic.{⊎-elim}
 use Prim.Native.Nat.{ℕ, _+_, _-_, _≤_, _<_}
@@ -11,10 +11,9 @@ use native.Mathlib.Omega.{arith}
 use lib.Dec.{eqb, lit≤}
 use lib.ListN.{length, length-append}
 use borrow.Author.Tests.{ne-eqb, eqb-false}
-use Rattle.link.specs.Choice.{pick, either}
 use Rattle.link.specs.Stuffing.{stuffed, stuffing, special, specials}
 use Rattle.link.specs.Image.{start, stop}
-use Rattle.link.proofs.Laws.Choice.{pick-elim}
+use Rattle.link.proofs.Laws.Choice.{cond-elim}
 
 -- what holds of FD, FE and FF holds of every byte from FD on
 by-special : (P : ℕ → Type 0) (b : ℕ) → 0xFD ≤ b → b < 0x100 → P 0xFD → P 0xFE → P 0xFF → P b
@@ -49,14 +48,14 @@ specials-special b s least most = by-special (λ (n : ℕ). specials (n ∷ s) �
 
 -- a byte travels as one byte, and as two where it is special
 by-tests : (p q r : Bool) (b : ℕ)
-    → length (pick p (0xFF ∷ 0x02 ∷ []) (pick q (0xFF ∷ 0x01 ∷ []) (pick r (0xFF ∷ 0x00 ∷ []) (b ∷ []))))
-    ≡ 1 + pick (either p (either q r)) 1 0
+    → length (cond p (0xFF ∷ 0x02 ∷ []) (cond q (0xFF ∷ 0x01 ∷ []) (cond r (0xFF ∷ 0x00 ∷ []) (b ∷ []))))
+    ≡ 1 + cond (p || q || r) 1 0
 by-tests true q r b = refl
 by-tests false true r b = refl
 by-tests false false true b = refl
 by-tests false false false b = refl
 
-length-stuffed : (b : ℕ) → length (stuffed b) ≡ 1 + pick (special b) 1 0
+length-stuffed : (b : ℕ) → length (stuffed b) ≡ 1 + cond (special b) 1 0
 unfolding stuffed
 length-stuffed b = by-tests (eqb b 0xFD) (eqb b 0xFE) (eqb b 0xFF) b
 
@@ -78,9 +77,9 @@ pair-within p h x m =
 stuffed-within : (b x : ℕ) → List·Memᴰ x (stuffed b) → Within x
 unfolding stuffed
 stuffed-within b x =
-    pick-elim P (eqb b 0xFD) (λ t. pair-within 0x02 (lit≤ tt) x)
-    (λ fd. pick-elim P (eqb b 0xFE) (λ t. pair-within 0x01 (lit≤ tt) x)
-    (λ fe. pick-elim P (eqb b 0xFF) (λ t. pair-within 0x00 (lit≤ tt) x)
+    cond-elim P (eqb b 0xFD) (λ t. pair-within 0x02 (lit≤ tt) x)
+    (λ fd. cond-elim P (eqb b 0xFE) (λ t. pair-within 0x01 (lit≤ tt) x)
+    (λ fe. cond-elim P (eqb b 0xFF) (λ t. pair-within 0x00 (lit≤ tt) x)
     (λ ff m. ⊎-elim
     (λ e. (λ s. eqb-false b 0xFD fd (sym e ∙ s), λ s. eqb-false b 0xFE fe (sym e ∙ s)))
     (λ o. absurd (List·Memᴰ·not-nil o))

@@ -9,7 +9,7 @@ use lib.Dec.{eqb}
 use borrow.Author.Tests.{eqb-true}
 use Rattle.link.specs.Stuffing.{stuffed, stuffing, undo, unstuffing}
 use Rattle.link.specs.Image.{start, stop, image}
-use Rattle.link.proofs.Laws.Choice.{pick-elim}
+use Rattle.link.proofs.Laws.Choice.{cond-elim}
 
 -- a content with one byte more in front
 abbrev before : ℕ → Option (List ℕ) → Option (List ℕ)
@@ -23,9 +23,9 @@ plain-next b s e = rw e
 next : (b : ℕ) (s : List ℕ) → undo false (stuffed b ++ s) ≡ before b (undo false s)
 unfolding stuffed undo
 next b s =
-    pick-elim P (eqb b 0xFD) (λ t. rw (eqb-true b 0xFD t))
-    (λ fd. pick-elim P (eqb b 0xFE) (λ t. rw (eqb-true b 0xFE t))
-    (λ fe. pick-elim P (eqb b 0xFF) (λ t. rw (eqb-true b 0xFF t)) (plain-next b s)))
+    cond-elim P (eqb b 0xFD) (λ t. rw (eqb-true b 0xFD t))
+    (λ fd. cond-elim P (eqb b 0xFE) (λ t. rw (eqb-true b 0xFE t))
+    (λ fe. cond-elim P (eqb b 0xFF) (λ t. rw (eqb-true b 0xFF t)) (plain-next b s)))
   where
     P : List ℕ → Type 0
     P l = undo false (l ++ s) ≡ before b (undo false s)

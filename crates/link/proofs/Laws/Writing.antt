@@ -14,7 +14,7 @@ use Rattle.link.specs.Address.{isNever}
 use Rattle.link.specs.Frame.{pointContent, addressedContent}
 use Rattle.link.specs.Refusals.{refused, counted}
 use Rattle.link.specs.Writing.{Left, left, imageWritten, written, pointWritten, addressedWritten, Told, tooLong, noAddress, noRoom, wrote}
-use Rattle.link.proofs.Laws.Choice.{pick-elim}
+use Rattle.link.proofs.Laws.Choice.{cond-elim}
 
 module _ (badAddress : Bool) (bytes content out : List ℕ) where
   pub refuses-length : mostData < length bytes → written badAddress bytes content out ≡ left (refused TooLong) out
@@ -39,10 +39,10 @@ module _ (badAddress : Bool) (bytes content out : List ℕ) where
   pub told : Told badAddress bytes content out (written badAddress bytes content out)
   unfolding written imageWritten
   told =
-      pick-elim P (ltb mostData (length bytes)) (λ t. tooLong (ltb-true mostData (length bytes) t))
+      cond-elim P (ltb mostData (length bytes)) (λ t. tooLong (ltb-true mostData (length bytes) t))
       (λ f. let fits = ltb-false mostData (length bytes) f in
-      pick-elim P badAddress (noAddress fits)
-      (λ a. pick-elim P (ltb (length out) (length (image content)))
+      cond-elim P badAddress (noAddress fits)
+      (λ a. cond-elim P (ltb (length out) (length (image content)))
       (λ t. noRoom fits a (ltb-true (length out) (length (image content)) t))
       (λ g. wrote fits a (ltb-false (length out) (length (image content)) g))))
     where
