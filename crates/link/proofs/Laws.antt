@@ -9,6 +9,7 @@ pub mod Image
 pub mod Xor
 pub mod Fcs
 pub mod Frame
+pub mod Refusals
 pub mod Writing
 pub mod Address
 pub mod Unique

@@ -2,7 +2,8 @@
 -- 01, Layout of a frame, 'Addresses'; 000, 'Транспортный уровень'. Assumes nothing.
 use Prim.Native.Nat.{ℕ}
 use mathlib.Core.Bool.{Bool, _||_, _&&_}
-use lib.Dec.{eqb, leb, ltb}
+use lib.Dec.{eqb, leb}
+use Rattle.link.specs.Stuffing.{special}
 
 -- 00 is the master
 abbrev pub isMaster : ℕ → Bool
@@ -16,6 +17,6 @@ isBroadcast a = eqb a 0x7F
 abbrev pub isOwn : ℕ → Bool
 isOwn a = leb 0x01 a && leb a 0x7E || leb 0x80 a && leb a 0xFC
 
--- FD, FE and FF are never addresses
+-- FD, FE and FF, which stuffing changes, are never addresses
 abbrev pub isNever : ℕ → Bool
-isNever a = ltb 0xFC a
+isNever a = special a

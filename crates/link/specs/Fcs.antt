@@ -4,7 +4,7 @@ use Prim.Native.Nat.{ℕ, zero, suc, _*_, _/_, _%_}
 use mathlib.Core.List.{List, [], _∷_}
 use lib.Bits.{bitAnd, bitXor}
 
--- one shift step: the low bit goes out to the right, and where it was set the rest is changed by 0x8408
+-- one shift step: shifted right by one, and where the bit that went out was set, changed by 0x8408
 unfoldable pub shiftStep : ℕ → ℕ
 shiftStep w = bitXor (w / 2) (bitAnd w 1 * 0x8408)
 
@@ -13,7 +13,7 @@ shiftSteps zero w = w
 shiftSteps (suc n) w = shiftSteps n (shiftStep w)
 
 -- the register after one more byte: the byte meets the register's low half, which goes through eight shift steps, and the high
--- half moves down
+-- half is shifted down
 unfoldable pub byteStep : ℕ → ℕ → ℕ
 byteStep register b = bitXor (shiftSteps 8 (bitAnd (bitXor b register) 0xFF)) (register / 0x100)
 

@@ -17,13 +17,13 @@ checkLength Fcs = 2
 checkLength Sum = 1
 
 -- a front with its check behind it
-unfoldable pub closed : Check → List ℕ → List ℕ
-closed check front = front ++ checkOf check front
+unfoldable pub withCheck : Check → List ℕ → List ℕ
+withCheck check front = front ++ checkOf check front
 
 -- identifier, command, data, FCS
 unfoldable pub pointContent : ℕ → ℕ → List ℕ → List ℕ
-pointContent identifier command bytes = closed Fcs (identifier ∷ command ∷ bytes)
+pointContent identifier command «data» = withCheck Fcs (identifier ∷ command ∷ «data»)
 
 -- address, identifier, command, data, sum
 unfoldable pub addressedContent : ℕ → ℕ → ℕ → List ℕ → List ℕ
-addressedContent address identifier command bytes = closed Sum (address ∷ identifier ∷ command ∷ bytes)
+addressedContent address identifier command «data» = withCheck Sum (address ∷ identifier ∷ command ∷ «data»)

@@ -1,6 +1,7 @@
 -- What a reader of this library must believe: the two lines' frames as functions on lists of bytes, and what each call answers.
 -- Read Stuffing, Image, Fcs, Sum, Address and Frame beside document 01, 'Layout of a frame'; Refusals and Writing beside 'Refusal numbers'.
--- A byte is a number; where a definition would differ above 255 it says so.
+-- Laying serves contracts inside the library only. A byte is a number; no definition asks that it be below 256, since the contracts
+-- hand over bytes.
 pub mod Limits
 pub mod Laying
 pub mod Stuffing

@@ -1,4 +1,4 @@
--- The refusals, with their numbers. 01, Refusal numbers. Assumes nothing.
+-- The refusals with their numbers, and an answer that counts bytes, in these numbers. 01, Refusal numbers. Assumes nothing.
 use Prim.Native.Nat.{ℕ}
 use Rattle.link.specs.declared.refusal.Refusal.{Refusal}
 use Rattle.link.specs.declared.refusal.Refusal.the-variants.{None, NoRoom, TooLong, BadAddress, BadState, BadRequest, WrongId, WrongCommand, WrongLength, WrongReason}
@@ -17,9 +17,17 @@ number WrongCommand = 7
 number WrongLength = 8
 number WrongReason = 9
 
--- a refused call returns the number and count 0
-abbrev pub refused : Refusal → Counted
-refused why = record { refusal = why; count = 0 }
+pub record Answer : Type 0 where
+  pub refusal : ℕ
+  pub count : ℕ
 
-abbrev pub counted : ℕ → Counted
-counted n = record { refusal = None; count = n }
+-- what a call's result says
+abbrev pub answered : Counted → Answer
+answered r = record { refusal = number (r .refusal); count = r .count }
+
+-- a refused call returns the number and count 0
+abbrev pub refused : Refusal → Answer
+refused why = record { refusal = number why; count = 0 }
+
+abbrev pub counted : ℕ → Answer
+counted n = record { refusal = 0; count = n }

@@ -28,12 +28,12 @@ specials [] = 0
 specials (b ∷ bs) = cond (special b) 1 0 + specials bs
 
 -- Stuffing undone; the test says whether an FF waits for its partner. 00, 01 and 02 give FF, FE and FD (01, How the receiver
--- moves, rule 3); another partner, or none, is no content.
+-- moves, rule 3). Another partner or none, and a bare FD or FE, is no content.
 unfoldable pub undo : Bool → List ℕ → Option (List ℕ)
 undo false [] = some []
 undo false (b ∷ bs) =
     let pair = undo true bs in
-    let plain = Option·map (λ c. b ∷ c) (undo false bs) in
+    let plain = cond (special b) none (Option·map (λ c. b ∷ c) (undo false bs)) in
     cond (eqb b 0xFF) pair plain
 undo true [] = none
 undo true (p ∷ bs) =

@@ -6,58 +6,67 @@ use mathlib.Core.Bool.{Bool, true, false, cond}
 use mathlib.Core.List.{List, _++_}
 use lib.Dec.{ltb}
 use lib.ListN.{length, drop}
+use Rattle.link.specs.declared.refusal.Refusal.{Refusal}
 use Rattle.link.specs.declared.refusal.Refusal.the-variants.{NoRoom, TooLong, BadAddress}
 use Rattle.link.specs.declared.refusal.Counted.{Counted}
 use Rattle.link.specs.Limits.{mostContent, mostData}
 use Rattle.link.specs.Image.{image, imageLength}
 use Rattle.link.specs.Address.{isNever}
 use Rattle.link.specs.Frame.{pointContent, addressedContent}
-use Rattle.link.specs.Refusals.{refused, counted}
-
--- a call's answer, and the contents of the lent buffer as it returns
-pub record Left : Type 0 where
-  pub answer : Counted
-  pub out : List ℕ
-
-abbrev pub left : Counted → List ℕ → Left
-left answer out = record { answer = answer; out = out }
+use Rattle.link.specs.Refusals.{Answer, answered, refused, counted}
 
 -- the length asked for a content: content over 64 is TooLong
-unfoldable pub measured : List ℕ → Counted
-measured content = cond (ltb mostContent (length content)) (refused TooLong) (counted (imageLength content))
+unfoldable pub lengthAsked : List ℕ → Answer
+lengthAsked content = cond (ltb mostContent (length content)) (refused TooLong) (counted (imageLength content))
 
--- out shorter than the image is NoRoom; else the image stands in front, the bytes behind it stay as they were, and the count is its
--- length
-unfoldable pub imageWritten : List ℕ → List ℕ → Left
-imageWritten content out =
-    cond (ltb (length out) (length (image content))) (left (refused NoRoom) out)
-    (left (counted (length (image content))) (image content ++ drop (length (image content)) out))
+-- a call's answer, and the contents of the lent buffer as it returns
+pub record After : Type 0 where
+  pub answer : Answer
+  pub out : List ℕ
+
+abbrev pub leaving : Answer → List ℕ → After
+leaving answer out = record { answer = answer; out = out }
+
+-- what a call's result says, and what it left
+abbrev pub after : Counted → List ℕ → After
+after r out = leaving (answered r) out
+
+-- a refusal leaves every byte as it was
+abbrev pub refusing : Refusal → List ℕ → After
+refusing why out = leaving (refused why) out
+
+-- the image stands in front, the bytes behind it stay as they were, and the count is its length
+abbrev pub putting : List ℕ → List ℕ → After
+putting content out = leaving (counted (length (image content))) (image content ++ drop (length (image content)) out)
+
+-- out shorter than the image is NoRoom
+unfoldable pub imageWritten : List ℕ → List ℕ → After
+imageWritten content out = cond (ltb (length out) (length (image content))) (refusing NoRoom out) (putting content out)
 
 -- a writer: refusals in the order 2, 3, 1, then the image
-unfoldable pub written : Bool → List ℕ → List ℕ → List ℕ → Left
-written badAddress bytes content out =
-    cond (ltb mostData (length bytes)) (left (refused TooLong) out)
-    (cond badAddress (left (refused BadAddress) out) (imageWritten content out))
+unfoldable pub written : Bool → List ℕ → List ℕ → List ℕ → After
+written never «data» content out =
+    cond (ltb mostData (length «data»)) (refusing TooLong out)
+    (cond never (refusing BadAddress out) (imageWritten content out))
 
 -- a point frame has no address to refuse
-unfoldable pub pointWritten : ℕ → ℕ → List ℕ → List ℕ → Left
-pointWritten identifier command bytes out = written false bytes (pointContent identifier command bytes) out
+unfoldable pub pointWritten : ℕ → ℕ → List ℕ → List ℕ → After
+pointWritten identifier command «data» out = written false «data» (pointContent identifier command «data») out
 
-unfoldable pub addressedWritten : ℕ → ℕ → ℕ → List ℕ → List ℕ → Left
-addressedWritten address identifier command bytes out =
-    written (isNever address) bytes (addressedContent address identifier command bytes) out
+unfoldable pub addressedWritten : ℕ → ℕ → ℕ → List ℕ → List ℕ → After
+addressedWritten address identifier command «data» out =
+    written (isNever address) «data» (addressedContent address identifier command «data») out
 
--- The writer's rows of the refusal table, when and only then, and the frame where no row applies. `Laws.Writing.told` proves that
--- `written` answers by it.
-pub data Told (badAddress : Bool) (bytes content out : List ℕ) : Left → Type 0 where
-  tooLong : mostData < length bytes → Told badAddress bytes content out (left (refused TooLong) out)
-  noAddress : length bytes ≤ mostData → badAddress ≡ true → Told badAddress bytes content out (left (refused BadAddress) out)
-  noRoom : length bytes ≤ mostData
-      → badAddress ≡ false
+-- The writer's rows of the refusal table, and the frame where no row applies: the four conditions exclude each other.
+-- `Laws.Writing` proves that `written` answers by them.
+pub data ByTable (never : Bool) («data» content out : List ℕ) : After → Type 0 where
+  tooLong : mostData < length «data» → ByTable never «data» content out (refusing TooLong out)
+  badAddress : length «data» ≤ mostData → never ≡ true → ByTable never «data» content out (refusing BadAddress out)
+  noRoom : length «data» ≤ mostData
+      → never ≡ false
       → length out < length (image content)
-      → Told badAddress bytes content out (left (refused NoRoom) out)
-  wrote : length bytes ≤ mostData
-      → badAddress ≡ false
+      → ByTable never «data» content out (refusing NoRoom out)
+  frame : length «data» ≤ mostData
+      → never ≡ false
       → length (image content) ≤ length out
-      → Told badAddress bytes content out
-      (left (counted (length (image content))) (image content ++ drop (length (image content)) out))
+      → ByTable never «data» content out (putting content out)

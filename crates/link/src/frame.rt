@@ -11,8 +11,8 @@ ghost use Prim.Native.Nat.{_+_, _≤_};
 ghost use lib.ListN.{length, take};
 ghost use Rattle.link.specs.Limits.{mostContent};
 ghost use Rattle.link.specs.Laying.{laid};
-ghost use Rattle.link.specs.Frame.{checkOf, checkLength, closed};
-ghost use Rattle.link.specs.Writing.{left, imageWritten};
+ghost use Rattle.link.specs.Frame.{checkOf, checkLength, withCheck};
+ghost use Rattle.link.specs.Writing.{after, imageWritten};
 
 // Which check stands at the end of a content: the FCS on the point line, the sum on the addressed line.
 pub(crate) enum Check {
@@ -21,7 +21,7 @@ pub(crate) enum Check {
 }
 
 // Lays the check of the first `front` bytes of `content` behind them, and answers the place behind it.
-fn close(check: Check, content: &mut [u8], front: usize) -> usize
+fn lay_check(check: Check, content: &mut [u8], front: usize) -> usize
     requires { ⌜ front + checkLength check ≤ length (now content) ⌝ }
     ensures { λ r. ⌜ (r ≡ front + checkLength check) × (now (content .exit) ≡ laid (now (content .entry)) front (checkOf check (take front (now (content .entry))))) ⌝ }
 {
@@ -42,11 +42,11 @@ fn close(check: Check, content: &mut [u8], front: usize) -> usize
 // Writes the image of the frame with this head and data to the front of `out`, and answers its length.
 pub(crate) fn write_frame(check: Check, head: &[u8], data: &[u8], out: &mut [u8]) -> Counted
     requires { ⌜ length (now head) + length (now «data») + checkLength check ≤ mostContent ⌝ }
-    ensures { λ r. ⌜ left r (now (out .exit)) ≡ imageWritten (closed check (now (head .entry) ++ now («data» .entry))) (now (out .entry)) ⌝ }
+    ensures { λ r. ⌜ after r (now (out .exit)) ≡ imageWritten (withCheck check (now (head .entry) ++ now («data» .entry))) (now (out .entry)) ⌝ }
 {
     let mut content = [0u8; MOST_CONTENT];
     lay(&mut content, 0, head);
     lay(&mut content, head.len(), data);
-    let end = close(check, &mut content, head.len() + data.len());
+    let end = lay_check(check, &mut content, head.len() + data.len());
     write_image(&content[..end], out)
 }

@@ -9,15 +9,16 @@ ghost use Prim.Native.Nat.{_≤_};
 ghost use lib.ListN.{length};
 ghost use Rattle.link.specs.Limits.{mostContent};
 ghost use Rattle.link.specs.Image.{imageLength};
-ghost use Rattle.link.specs.Writing.{left, measured, imageWritten};
+ghost use Rattle.link.specs.Refusals.{answered};
+ghost use Rattle.link.specs.Writing.{after, lengthAsked, imageWritten};
 
 const START: u8 = 0xFD;
 
 const STOP: u8 = 0xFE;
 
-// The length of a content's image.
+// The length of a content's image. Refuses a content over 64 bytes (TooLong).
 pub fn image_length(content: &[u8]) -> Counted
-    ensures { λ r. ⌜ r ≡ measured (now (content .entry)) ⌝ }
+    ensures { λ r. ⌜ answered r ≡ lengthAsked (now (content .entry)) ⌝ }
 {
     if content.len() > MOST_CONTENT {
         return Counted::refused(Refusal::TooLong);
@@ -33,10 +34,11 @@ fn wire_length(content: &[u8]) -> usize
     2 + content.len() + specials(content)
 }
 
-// Writes the image of a content within the limit to the front of `out`, and answers its length.
+// Writes the image of a content within the limit to the front of `out`, and answers its length. Refuses `out` shorter than the image
+// (NoRoom) and then leaves it as it was.
 pub(crate) fn write_image(content: &[u8], out: &mut [u8]) -> Counted
     requires { ⌜ length (now content) ≤ mostContent ⌝ }
-    ensures { λ r. ⌜ left r (now (out .exit)) ≡ imageWritten (now (content .entry)) (now (out .entry)) ⌝ }
+    ensures { λ r. ⌜ after r (now (out .exit)) ≡ imageWritten (now (content .entry)) (now (out .entry)) ⌝ }
 {
     let needed = wire_length(content);
     if out.len() < needed {

@@ -1,6 +1,6 @@
 // Why a call refused its input, and the answer of a call that counts bytes.
 ghost use mathlib.Core.Path.{_≡_};
-ghost use Rattle.link.specs.Refusals.{number as numberOf, refused as refusedOf, counted as countedOf};
+ghost use Rattle.link.specs.Refusals.{number as numberOf, answered, refused as refusedOf, counted as countedOf};
 
 pub enum Refusal {
     None,
@@ -41,13 +41,13 @@ pub fn number(refusal: Refusal) -> u8
 
 impl Counted {
     pub(crate) fn refused(refusal: Refusal) -> Counted
-        ensures { λ r. ⌜ r ≡ refusedOf refusal ⌝ }
+        ensures { λ r. ⌜ answered r ≡ refusedOf refusal ⌝ }
     {
         Counted { refusal, count: 0 }
     }
 
     pub(crate) fn of(count: usize) -> Counted
-        ensures { λ r. ⌜ r ≡ countedOf count ⌝ }
+        ensures { λ r. ⌜ answered r ≡ countedOf count ⌝ }
     {
         Counted {
             refusal: Refusal::None,

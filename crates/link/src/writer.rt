@@ -5,13 +5,14 @@ use crate::limits::MOST_DATA;
 use crate::refusal::Counted;
 use crate::refusal::Refusal;
 ghost use mathlib.Core.Path.{_≡_};
-ghost use Rattle.link.specs.Writing.{left, pointWritten, addressedWritten};
+ghost use Rattle.link.specs.Writing.{after, pointWritten, addressedWritten};
 
 const LAST_ADDRESS: u8 = 0xFC;
 
-// Writes the image of a point frame to the front of `out`, and answers its length.
+// Writes the image of a point frame to the front of `out`, and answers its length. Refuses data over 60 bytes (TooLong) and `out`
+// shorter than the image (NoRoom), in this order; a refusal leaves `out` as it was.
 pub fn write_point(identifier: u8, command: u8, data: &[u8], out: &mut [u8]) -> Counted
-    ensures { λ r. ⌜ left r (now (out .exit)) ≡ pointWritten identifier command (now («data» .entry)) (now (out .entry)) ⌝ }
+    ensures { λ r. ⌜ after r (now (out .exit)) ≡ pointWritten identifier command (now («data» .entry)) (now (out .entry)) ⌝ }
 {
     if data.len() > MOST_DATA {
         return Counted::refused(Refusal::TooLong);
@@ -19,7 +20,8 @@ pub fn write_point(identifier: u8, command: u8, data: &[u8], out: &mut [u8]) -> 
     write_frame(Check::Fcs, &[identifier, command], data, out)
 }
 
-// Writes the image of an addressed frame to the front of `out`, and answers its length.
+// Writes the image of an addressed frame to the front of `out`, and answers its length. Refuses data over 60 bytes (TooLong), address
+// FD..FF (BadAddress) and `out` shorter than the image (NoRoom), in this order; a refusal leaves `out` as it was.
 pub fn write_addressed(
     address: u8,
     identifier: u8,
@@ -27,7 +29,7 @@ pub fn write_addressed(
     data: &[u8],
     out: &mut [u8],
 ) -> Counted
-    ensures { λ r. ⌜ left r (now (out .exit)) ≡ addressedWritten address identifier command (now («data» .entry)) (now (out .entry)) ⌝ }
+    ensures { λ r. ⌜ after r (now (out .exit)) ≡ addressedWritten address identifier command (now («data» .entry)) (now (out .entry)) ⌝ }
 {
     if data.len() > MOST_DATA {
         return Counted::refused(Refusal::TooLong);

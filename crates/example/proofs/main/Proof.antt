@@ -8,14 +8,14 @@ use lib.Seq.{length-take-le}
 use Rattle.link.specs.Stuffing.{stuffed, stuffing}
 use Rattle.link.specs.Image.{image}
 use Rattle.link.specs.Fcs.{shiftStep, shiftSteps, byteStep, run, residue, fcs, fcsBytes}
-use Rattle.link.specs.Frame.{checkOf, closed, pointContent}
-use Rattle.link.specs.Writing.{Left, imageWritten, written, pointWritten}
+use Rattle.link.specs.Frame.{checkOf, withCheck, pointContent}
+use Rattle.link.specs.Writing.{After, imageWritten, written, pointWritten}
 use Rattle.example.proofs.main.Statement.{statement}
 use Rattle.example.proofs.main.Tie as tie
 
 six : (c : tie.After-write-point) → c .write-point .result .count ≡ 6
-unfolding stuffed stuffing image shiftStep shiftSteps byteStep run residue fcs fcsBytes checkOf closed pointContent imageWritten written pointWritten
-six c = ap (λ (l : Left). l .answer .count) (c .write-point .ensures)
+unfolding stuffed stuffing image shiftStep shiftSteps byteStep run residue fcs fcsBytes checkOf withCheck pointContent imageWritten written pointWritten
+six c = ap (λ (l : After). l .answer .count) (c .write-point .ensures)
 
 slice-aggregate-write-point : tie.Need-slice-aggregate-write-point
 slice-aggregate-write-point c = search needs

@@ -11,4 +11,4 @@ abbrev pub kinds : ℕ → ℕ
 kinds a = cond (isMaster a) 1 0 + cond (isBroadcast a) 1 0 + cond (isOwn a) 1 0 + cond (isNever a) 1 0
 
 pub one-kind : (a : ℕ) → a < 0x100 → kinds a ≡ 1
-one-kind a h = sym (entry kinds (replicate 0x100 1) a h refl) ∙ getD-replicate 0x100 a 1 0 h
+one-kind a h = sym (entry kinds {table = replicate 0x100 1} a h (record { test = refl })) ∙ getD-replicate 0x100 a 1 0 h

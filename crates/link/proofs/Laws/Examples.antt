@@ -6,8 +6,8 @@ use Rattle.link.specs.Stuffing.{stuffed, stuffing}
 use Rattle.link.specs.Image.{image}
 use Rattle.link.specs.Fcs.{shiftStep, shiftSteps, byteStep, run, residue, fcs, fcsBytes}
 use Rattle.link.specs.Sum.{total, sum}
-use Rattle.link.specs.Frame.{checkOf, closed, pointContent, addressedContent}
+use Rattle.link.specs.Frame.{checkOf, withCheck, pointContent, addressedContent}
 
 pub each-holds : EachHolds examples
-unfolding stuffed stuffing image shiftStep shiftSteps byteStep run residue fcs fcsBytes total sum checkOf closed pointContent addressedContent
+unfolding stuffed stuffing image shiftStep shiftSteps byteStep run residue fcs fcsBytes total sum checkOf withCheck pointContent addressedContent
 each-holds = (refl, (refl, (refl, (refl, (refl, (refl, (refl, tt)))))))

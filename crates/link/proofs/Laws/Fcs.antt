@@ -72,11 +72,11 @@ constant : bitXor (shiftSteps 8 (bitAnd (bitXor 0xFF (shiftSteps 8 0xFF)) 0xFF))
 unfolding shiftStep shiftSteps
 constant = refl
 
-pub good-residue : (content : List ℕ) → residue (content ++ fcsBytes content) ≡ goodResidue
+pub good-residue : (front : List ℕ) → residue (front ++ fcsBytes front) ≡ goodResidue
 unfolding run residue fcs fcsBytes
-good-residue content =
-    let v = residue content in
-    run-append 0xFFFF content (fcsBytes content)
+good-residue front =
+    let v = residue front in
+    run-append 0xFFFF front (fcsBytes front)
     ∙ ap (λ (w : ℕ). byteStep w (bitXor v 0xFFFF / 0x100)) (low-step v)
-    ∙ high-step v (shiftSteps 8 0xFF) (residue-lt content)
+    ∙ high-step v (shiftSteps 8 0xFF) (residue-lt front)
     ∙ constant

@@ -2,14 +2,14 @@
 -- Assumes nothing.
 use mathlib.Core.Path.{_≡_, _∙_}
 use mathlib.Core.List.{List, [], _∷_, _++_}
-use Prim.Native.Nat.{ℕ, _+_, _≤_}
+use Prim.Native.Nat.{ℕ, _+_, _*_, _≤_}
 use native.Mathlib.Omega.{arith}
 use lib.ListN.{length, drop, set, length-append, length-set}
 use Rattle.link.specs.Laying.{laid}
 use Rattle.link.specs.Stuffing.{stuffing}
 use Rattle.link.specs.Image.{start, stop, image, imageLength}
 use Rattle.link.proofs.Laws.Laying.{laid-more, laid-next, laid-front, length-laid, set-laid}
-use Rattle.link.proofs.Laws.Stuffing.{length-stuffing}
+use Rattle.link.proofs.Laws.Stuffing.{length-stuffing, specials-most}
 
 -- the image is as long as its length says
 pub length-image : (content : List ℕ) → length (image content) ≡ imageLength content
@@ -34,3 +34,8 @@ image-laid content out h =
     ∙ laid-more out₁ 1 S (stop ∷ []) (omega arith)
     ∙ laid-next out 0 start (S ++ (stop ∷ [])) (omega arith)
     ∙ laid-front out (start ∷ S ++ (stop ∷ []))
+
+-- no image is longer than twice its content, and start and stop
+pub most-image : (content : List ℕ) → length (image content) ≤ 2 + 2 * length content
+unfolding imageLength
+most-image content = omega (arith, length-image content, specials-most content)

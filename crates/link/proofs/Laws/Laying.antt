@@ -49,7 +49,7 @@ pub laid-front : (l x : List ℕ) → laid l 0 x ≡ x ++ drop (length x) l
 unfolding laid
 laid-front l x = rw zero-add
 
--- the same two laws at the front of a buffer
+-- at the front of a buffer: what was laid, and what is laid behind it
 pub take-front : (l x : List ℕ) → take (length x) (laid l 0 x) ≡ x
 take-front l x = rw (zero-add (length x)) at (take-laid l 0 x zero-le)
 

@@ -1,10 +1,10 @@
--- Laws of stuffing: what it has in it, how long it is, and that it can be undone.
+-- Laws of stuffing: what it makes of each byte, how long it is, and what never stands in it.
 -- Assumes nothing.
 use mathlib.Core.Path.{_≡_, refl, sym, _∙_, subst}
-use mathlib.Core.Bool.{Bool, true, false, cond, _||_}
+use mathlib.Core.Bool.{Bool, true, false, cond, _||_, true≢false}
 use mathlib.Core.List.{List, [], _∷_, List·Memᴰ, List·Memᴰ·not-nil, List·Memᴰ·cases-cons, List·Memᴰ·append-cases}
 use mathlib.Core.Logic.{⊎-elim}
-use Prim.Native.Nat.{ℕ, _+_, _-_, _≤_, _<_}
+use Prim.Native.Nat.{ℕ, _+_, _-_, _≤_, _<_, zero-le}
 use native.Mathlib.Nat.{zero-add}
 use native.Mathlib.Decide.{decLe}
 use native.Mathlib.Omega.{arith}
@@ -24,18 +24,32 @@ by-special P b least most fd fe ff = go (decLe b 0xFD) (decLe b 0xFE)
     go (no h) (yes k) = subst P (omega arith) fe
     go (no h) (no k) = subst P (omega arith) ff
 
--- a byte below FD stands for itself
-pub stuffed-plain : (b : ℕ) → b < 0xFD → stuffed b ≡ b ∷ []
+-- FD, FE and FF are the special bytes
+pub plain-is : (b : ℕ) → b < 0xFD → special b ≡ false
+plain-is b h = simp (ne-eqb b 0xFD (omega arith), ne-eqb b 0xFE (omega arith), ne-eqb b 0xFF (omega arith))
+
+pub special-is : (b : ℕ) → 0xFD ≤ b → b < 0x100 → special b ≡ true
+special-is b least most = by-special (λ (n : ℕ). special n ≡ true) b least most refl refl refl
+
+other : (p q r : Bool) (b : ℕ) → (p || q || r) ≡ false
+    → cond p (0xFF ∷ 0x02 ∷ []) (cond q (0xFF ∷ 0x01 ∷ []) (cond r (0xFF ∷ 0x00 ∷ []) (b ∷ []))) ≡ b ∷ []
+other true q r b e = absurd (true≢false e)
+other false true r b e = absurd (true≢false e)
+other false false true b e = absurd (true≢false e)
+other false false false b e = refl
+
+-- what is not special stands for itself
+pub stuffed-other : (b : ℕ) → special b ≡ false → stuffed b ≡ b ∷ []
 unfolding stuffed
-stuffed-plain b h = simp (ne-eqb b 0xFD (omega arith), ne-eqb b 0xFE (omega arith), ne-eqb b 0xFF (omega arith))
+stuffed-other b = other (eqb b 0xFD) (eqb b 0xFE) (eqb b 0xFF) b
+
+pub stuffed-plain : (b : ℕ) → b < 0xFD → stuffed b ≡ b ∷ []
+stuffed-plain b h = stuffed-other b (plain-is b h)
 
 -- any other is FF and its distance from FF
 pub stuffed-special : (b : ℕ) → 0xFD ≤ b → b < 0x100 → stuffed b ≡ 0xFF ∷ (0xFF - b) ∷ []
 unfolding stuffed
 stuffed-special b least most = by-special (λ (n : ℕ). stuffed n ≡ 0xFF ∷ (0xFF - n) ∷ []) b least most refl refl refl
-
-plain-is : (b : ℕ) → b < 0xFD → special b ≡ false
-plain-is b h = simp (ne-eqb b 0xFD (omega arith), ne-eqb b 0xFE (omega arith), ne-eqb b 0xFF (omega arith))
 
 -- the count goes up by one at FD, FE and FF, and at no other byte
 pub specials-plain : (b : ℕ) (s : List ℕ) → b < 0xFD → specials (b ∷ s) ≡ specials s
@@ -45,6 +59,13 @@ specials-plain b s h = rw (plain-is b h) (zero-add (specials s))
 pub specials-special : (b : ℕ) (s : List ℕ) → 0xFD ≤ b → b < 0x100 → specials (b ∷ s) ≡ 1 + specials s
 unfolding specials
 specials-special b s least most = by-special (λ (n : ℕ). specials (n ∷ s) ≡ 1 + specials s) b least most refl refl refl
+
+pub specials-most : (content : List ℕ) → specials content ≤ length content
+unfolding specials
+specials-most [] = zero-le
+specials-most (b ∷ bs) =
+    let one : cond (special b) 1 0 ≤ 1 = cond-elim (λ (n : ℕ). n ≤ 1) (special b) (λ t. lit≤ tt) (λ f. lit≤ tt) in
+    omega (arith, specials-most bs)
 
 -- a byte travels as one byte, and as two where it is special
 by-tests : (p q r : Bool) (b : ℕ)
@@ -65,31 +86,31 @@ length-stuffing [] = refl
 length-stuffing (b ∷ bs) = simp length-append (omega (arith, length-stuffed b, length-stuffing bs))
 
 -- neither start nor stop
-abbrev pub Within : ℕ → Type 0
-Within b = (b ≡ start → ⊥) × (b ≡ stop → ⊥)
+abbrev pub NeitherStartNorStop : ℕ → Type 0
+NeitherStartNorStop b = (b ≡ start → ⊥) × (b ≡ stop → ⊥)
 
-pair-within : (p : ℕ) → p ≤ 0x02 → (x : ℕ) → List·Memᴰ x (0xFF ∷ p ∷ []) → Within x
-pair-within p h x m =
+pair-neither : (p : ℕ) → p ≤ 0x02 → (x : ℕ) → List·Memᴰ x (0xFF ∷ p ∷ []) → NeitherStartNorStop x
+pair-neither p h x m =
     ⊎-elim (λ e. omega arith)
     (λ n. ⊎-elim (λ e. omega arith) (λ o. absurd (List·Memᴰ·not-nil o)) (List·Memᴰ·cases-cons n))
     (List·Memᴰ·cases-cons m)
 
-stuffed-within : (b x : ℕ) → List·Memᴰ x (stuffed b) → Within x
+stuffed-neither : (b x : ℕ) → List·Memᴰ x (stuffed b) → NeitherStartNorStop x
 unfolding stuffed
-stuffed-within b x =
-    cond-elim P (eqb b 0xFD) (λ t. pair-within 0x02 (lit≤ tt) x)
-    (λ fd. cond-elim P (eqb b 0xFE) (λ t. pair-within 0x01 (lit≤ tt) x)
-    (λ fe. cond-elim P (eqb b 0xFF) (λ t. pair-within 0x00 (lit≤ tt) x)
+stuffed-neither b x =
+    cond-elim P (eqb b 0xFD) (λ t. pair-neither 0x02 (lit≤ tt) x)
+    (λ fd. cond-elim P (eqb b 0xFE) (λ t. pair-neither 0x01 (lit≤ tt) x)
+    (λ fe. cond-elim P (eqb b 0xFF) (λ t. pair-neither 0x00 (lit≤ tt) x)
     (λ ff m. ⊎-elim
     (λ e. (λ s. eqb-false b 0xFD fd (sym e ∙ s), λ s. eqb-false b 0xFE fe (sym e ∙ s)))
     (λ o. absurd (List·Memᴰ·not-nil o))
     (List·Memᴰ·cases-cons m))))
   where
     P : List ℕ → Type 0
-    P l = List·Memᴰ x l → Within x
+    P l = List·Memᴰ x l → NeitherStartNorStop x
 
 -- stuffing has no FD and no FE in it
-pub stuffing-within : (content : List ℕ) (x : ℕ) → List·Memᴰ x (stuffing content) → Within x
+pub stuffing-neither : (content : List ℕ) (x : ℕ) → List·Memᴰ x (stuffing content) → NeitherStartNorStop x
 unfolding stuffing
-stuffing-within [] x m = absurd (List·Memᴰ·not-nil m)
-stuffing-within (b ∷ bs) x m = ⊎-elim (stuffed-within b x) (stuffing-within bs x) (List·Memᴰ·append-cases (stuffed b) m)
+stuffing-neither [] x m = absurd (List·Memᴰ·not-nil m)
+stuffing-neither (b ∷ bs) x m = ⊎-elim (stuffed-neither b x) (stuffing-neither bs x) (List·Memᴰ·append-cases (stuffed b) m)

@@ -1,22 +1,29 @@
--- A table worked out beforehand: it is the list of a function's values at 0, 1, 2 and so on, which antt computes once for the whole
--- table, and so each entry is the function's value at its place.
+-- A table worked out beforehand: one test, which antt computes over the whole table, and from it the rule at each entry.
 -- Assumes nothing.
 use mathlib.Core.Path.{_≡_, ap, _∙_}
+use mathlib.Core.Bool.{Bool, true, _&&_, and-eq-true-iff}
 use mathlib.Core.List.{List, [], _∷_}
 use Prim.Native.Nat.{ℕ, zero, suc, _+_, _<_}
 use native.Mathlib.Nat.{zero-add, add-zero, add-suc, suc-add, le-of-suc-le-suc, not-suc-le-zero}
+use lib.Dec.{eqb}
 use lib.ListN.{length, getD}
+use borrow.Author.Tests.{eqb-true}
 
--- f i, f (i + 1), .., in all n values
-abbrev pub values : (ℕ → ℕ) → ℕ → ℕ → List ℕ
-values f i zero = []
-values f i (suc n) = f i ∷ values f (suc i) n
+-- the table's entries are f i, f (i + 1) and so on
+abbrev pub lists : (ℕ → ℕ) → ℕ → List ℕ → Bool
+lists f i [] = true
+lists f i (x ∷ xs) = eqb x (f i) && lists f (suc i) xs
 
-value-at : (f : ℕ → ℕ) (i n k : ℕ) → k < n → getD (values f i n) k 0 ≡ f (i + k)
-value-at f i zero k h = absurd (not-suc-le-zero h)
-value-at f i (suc n) zero h = rw add-zero
-value-at f i (suc n) (suc k) h = rw (add-suc, ← suc-add) (value-at f (suc i) n k (le-of-suc-le-suc h))
+from : (f : ℕ → ℕ) (i : ℕ) (table : List ℕ) (k : ℕ) → k < length table → lists f i table ≡ true → getD table k 0 ≡ f (i + k)
+from f i [] k h t = absurd (not-suc-le-zero h)
+from f i (x ∷ xs) zero h t = rw add-zero (eqb-true x (f i) (and-eq-true-iff (eqb x (f i)) (lists f (suc i) xs) .0 t .0))
+from f i (x ∷ xs) (suc k) h t =
+    rw (add-suc, ← suc-add)
+    (from f (suc i) xs k (le-of-suc-le-suc h) (and-eq-true-iff (eqb x (f i)) (lists f (suc i) xs) .0 t .1))
 
-pub entry : (f : ℕ → ℕ) (table : List ℕ) (k : ℕ) → k < length table → table ≡ values f 0 (length table) → getD table k 0 ≡ f k
-entry f table k h e =
-    ap (λ (l : List ℕ). getD l k 0) e ∙ value-at f 0 (length table) k h ∙ ap f (zero-add k)
+-- the table's rule: its entries are f 0, f 1 and so on
+pub record WorkedOut (f : ℕ → ℕ) (table : List ℕ) : Type 0 where
+  pub test : lists f 0 table ≡ true
+
+pub entry : (f : ℕ → ℕ) {table : List ℕ} (k : ℕ) → k < length table → WorkedOut f table → getD table k 0 ≡ f k
+entry f {table} k h w = from f 0 table k h (w .test) ∙ ap f (zero-add k)

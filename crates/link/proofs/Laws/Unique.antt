@@ -4,14 +4,24 @@ use mathlib.Core.Path.{_≡_, sym, ap, _∙_}
 use mathlib.Core.List.{List}
 use Prim.Native.Nat.{ℕ}
 use Rattle.link.specs.declared.refusal.Counted.{Counted}
-use Rattle.link.specs.Writing.{Left, left}
+use Rattle.link.specs.Refusals.{Answer, answered}
+use Rattle.link.specs.Writing.{After, after}
+use Rattle.link.proofs.Laws.Refusals.{number-injective}
 
--- of a call that lends no buffer to write to
+-- of a call that answers a number
 pub same : {A : Type 0} {r s t : A} → r ≡ t → s ≡ t → r ≡ s
 same p q = p ∙ sym q
 
--- of a call that writes to a lent buffer: the answer and the buffer's contents
-pub same-left : {r s : Counted} {o p : List ℕ} {t : Left} → left r o ≡ t → left s p ≡ t → (r ≡ s) × (o ≡ p)
-same-left {r} {s} {o} {p} e f =
-    let both : left r o ≡ left s p = same e f in
-    (ap (λ (l : Left). l .answer) both, ap (λ (l : Left). l .out) both)
+-- of a call that answers a count or a refusal
+pub same-answer : {r s : Counted} {t : Answer} → answered r ≡ t → answered s ≡ t → r ≡ s
+same-answer {r} {s} p q =
+    let e : answered r ≡ answered s = same p q in
+    let why = number-injective (r .refusal) (s .refusal) (ap (λ (a : Answer). a .refusal) e) in
+    let count = ap (λ (a : Answer). a .count) e in
+    λ i. record { refusal = why i; count = count i }
+
+-- of a call that writes to a lent buffer besides
+pub same-after : {r s : Counted} {o p : List ℕ} {t : After} → after r o ≡ t → after s p ≡ t → (r ≡ s) × (o ≡ p)
+same-after {r} {s} {o} {p} e f =
+    let both : after r o ≡ after s p = same e f in
+    (same-answer (ap (λ (a : After). a .answer) e) (ap (λ (a : After). a .answer) f), ap (λ (a : After). a .out) both)

@@ -1,62 +1,85 @@
 -- The writers answer by the refusal table, and write the image of every frame that no row of it names.
 -- Assumes nothing.
-use mathlib.Core.Path.{_≡_, _∙_}
+use mathlib.Core.Path.{_≡_, refl, _∙_}
 use mathlib.Core.Bool.{Bool, true, false}
-use mathlib.Core.List.{List, _++_}
+use mathlib.Core.List.{List}
 use Prim.Native.Nat.{ℕ, _≤_, _<_}
+use native.Mathlib.Omega.{arith}
 use lib.Dec.{ltb}
-use lib.ListN.{length, drop}
+use lib.ListN.{length}
 use borrow.Author.Tests.{ltb-true, ltb-false, lt-ltb, le-ltb}
-use Rattle.link.specs.declared.refusal.Refusal.the-variants.{TooLong, BadAddress}
+use Rattle.link.specs.declared.refusal.Refusal.the-variants.{NoRoom, TooLong, BadAddress}
 use Rattle.link.specs.Limits.{mostData}
 use Rattle.link.specs.Image.{image}
 use Rattle.link.specs.Address.{isNever}
 use Rattle.link.specs.Frame.{pointContent, addressedContent}
-use Rattle.link.specs.Refusals.{refused, counted}
-use Rattle.link.specs.Writing.{Left, left, imageWritten, written, pointWritten, addressedWritten, Told, tooLong, noAddress, noRoom, wrote}
+use Rattle.link.specs.Writing.{After, refusing, putting, imageWritten, written, pointWritten, addressedWritten, ByTable, tooLong, badAddress, noRoom, frame}
 use Rattle.link.proofs.Laws.Choice.{cond-elim}
+use Rattle.link.proofs.Laws.Stuffing.{plain-is}
 
-module _ (badAddress : Bool) (bytes content out : List ℕ) where
-  pub refuses-length : mostData < length bytes → written badAddress bytes content out ≡ left (refused TooLong) out
+module _ (never : Bool) («data» content out : List ℕ) where
+  -- ---- when: each row, and the frame where no row applies
+
+  pub refuses-length : mostData < length «data» → written never «data» content out ≡ refusing TooLong out
   unfolding written
-  refuses-length long = rw (lt-ltb mostData (length bytes) long)
+  refuses-length long = rw (lt-ltb mostData (length «data») long)
 
-  pub refuses-address : length bytes ≤ mostData → badAddress ≡ true → written badAddress bytes content out ≡ left (refused BadAddress) out
+  pub refuses-address : length «data» ≤ mostData → never ≡ true → written never «data» content out ≡ refusing BadAddress out
   unfolding written
-  refuses-address fits bad = rw (le-ltb mostData (length bytes) fits, bad)
+  refuses-address fits bad = rw (le-ltb mostData (length «data») fits, bad)
 
-  pub goes-on : length bytes ≤ mostData → badAddress ≡ false → written badAddress bytes content out ≡ imageWritten content out
+  pub goes-on : length «data» ≤ mostData → never ≡ false → written never «data» content out ≡ imageWritten content out
   unfolding written
-  goes-on fits good = rw (le-ltb mostData (length bytes) fits, good)
+  goes-on fits good = rw (le-ltb mostData (length «data») fits, good)
 
-  -- no row applies: the image, its length, and what stood behind it
-  pub writes : length bytes ≤ mostData → badAddress ≡ false → length (image content) ≤ length out
-      → written badAddress bytes content out
-      ≡ left (counted (length (image content))) (image content ++ drop (length (image content)) out)
+  pub refuses-room : length «data» ≤ mostData → never ≡ false → length out < length (image content)
+      → written never «data» content out ≡ refusing NoRoom out
+  unfolding imageWritten
+  refuses-room fits good short = goes-on fits good ∙ rw (lt-ltb (length out) (length (image content)) short)
+
+  pub writes : length «data» ≤ mostData → never ≡ false → length (image content) ≤ length out
+      → written never «data» content out ≡ putting content out
   unfolding imageWritten
   writes fits good room = goes-on fits good ∙ rw (le-ltb (length out) (length (image content)) room)
 
-  pub told : Told badAddress bytes content out (written badAddress bytes content out)
+  -- ---- and only then: of the answer that was given, the row's conditions hold
+
+  pub by-table : ByTable never «data» content out (written never «data» content out)
   unfolding written imageWritten
-  told =
-      cond-elim P (ltb mostData (length bytes)) (λ t. tooLong (ltb-true mostData (length bytes) t))
-      (λ f. let fits = ltb-false mostData (length bytes) f in
-      cond-elim P badAddress (noAddress fits)
+  by-table =
+      cond-elim P (ltb mostData (length «data»)) (λ t. tooLong (ltb-true mostData (length «data») t))
+      (λ f. let fits = ltb-false mostData (length «data») f in
+      cond-elim P never (badAddress fits)
       (λ a. cond-elim P (ltb (length out) (length (image content)))
       (λ t. noRoom fits a (ltb-true (length out) (length (image content)) t))
-      (λ g. wrote fits a (ltb-false (length out) (length (image content)) g))))
+      (λ g. frame fits a (ltb-false (length out) (length (image content)) g))))
     where
-      P : Left → Type 0
-      P = Told badAddress bytes content out
+      P : After → Type 0
+      P = ByTable never «data» content out
 
-pub point-told : (identifier command : ℕ) (bytes out : List ℕ)
-    → Told false bytes (pointContent identifier command bytes) out (pointWritten identifier command bytes out)
-unfolding pointWritten
-point-told identifier command bytes out = told false bytes (pointContent identifier command bytes) out
+-- ---- the same of each writer
 
-pub addressed-told : (address identifier command : ℕ) (bytes out : List ℕ)
-    → Told (isNever address) bytes (addressedContent address identifier command bytes) out
-    (addressedWritten address identifier command bytes out)
-unfolding addressedWritten
-addressed-told address identifier command bytes out =
-    told (isNever address) bytes (addressedContent address identifier command bytes) out
+module _ (identifier command : ℕ) («data» out : List ℕ) where
+  pub point-by-table : ByTable false «data» (pointContent identifier command «data») out (pointWritten identifier command «data» out)
+  unfolding pointWritten
+  point-by-table = by-table false «data» (pointContent identifier command «data») out
+
+  pub point-writes : length «data» ≤ mostData → length (image (pointContent identifier command «data»)) ≤ length out
+      → pointWritten identifier command «data» out ≡ putting (pointContent identifier command «data») out
+  unfolding pointWritten
+  point-writes fits room = writes false «data» (pointContent identifier command «data») out fits refl room
+
+module _ (address identifier command : ℕ) («data» out : List ℕ) where
+  pub addressed-by-table : ByTable (isNever address) «data» (addressedContent address identifier command «data») out
+      (addressedWritten address identifier command «data» out)
+  unfolding addressedWritten
+  addressed-by-table = by-table (isNever address) «data» (addressedContent address identifier command «data») out
+
+  -- the writer writes for any address 00..FC
+  pub addressed-writes : address ≤ 0xFC
+      → length «data» ≤ mostData
+      → length (image (addressedContent address identifier command «data»)) ≤ length out
+      → addressedWritten address identifier command «data» out ≡ putting (addressedContent address identifier command «data») out
+  unfolding addressedWritten
+  addressed-writes known fits room =
+      writes (isNever address) «data» (addressedContent address identifier command «data») out fits (plain-is address (omega arith)) room

@@ -8,20 +8,20 @@ use lib.Bits.{bitXor, and-mask}
 use lib.ListN.{length, getD, drop, drop-of-length-le}
 use Rattle.link.specs.Fcs.{shiftStep, shiftSteps, byteStep, run, residue}
 use Rattle.link.proofs.Laws.Lists.{drop-next}
-use Rattle.link.proofs.Laws.Table.{values, entry}
+use Rattle.link.proofs.Laws.Table.{WorkedOut, entry}
 use Rattle.link.proofs.fcs.residue.Statement.{statement}
 use Rattle.link.proofs.fcs.residue.Tie as tie
 
 abbrev Inv-loop : tie.InvT-loop
 Inv-loop bytes table register₀ i₀ register i =
-    (i ≤ length bytes) × (table ≡ values (shiftSteps 8) 0 0x100) × (run register (drop i bytes) ≡ residue bytes)
+    (i ≤ length bytes) × WorkedOut (shiftSteps 8) table × (run register (drop i bytes) ≡ residue bytes)
 
 abbrev μ-loop : tie.MeasureT-loop
 μ-loop bytes table register₀ i₀ register i = length bytes - i
 
 loop-holds : tie.Need-loop-holds Inv-loop μ-loop
 unfolding shiftStep shiftSteps residue
-loop-holds c = (omega arith, refl, refl)
+loop-holds c = (omega arith, record { test = refl }, refl)
 
 shared-slice-read-k : tie.Need-shared-slice-read-k Inv-loop μ-loop
 shared-slice-read-k c = omega arith
@@ -54,7 +54,7 @@ loop-again c =
       omega arith,
       d .loop .inv .1,
       ap (λ (w : ℕ). run (bitXor w (d .loop .register / 0x100)) (drop (d .loop .i + 1) s))
-          (entry (shiftSteps 8) _ (met % 0x100) h (d .loop .inv .1) ∙ ap (shiftSteps 8) (sym (and-mask met 8)))
+          (entry (shiftSteps 8) (met % 0x100) h (d .loop .inv .1) ∙ ap (shiftSteps 8) (sym (and-mask met 8)))
           ∙ rw (drop-next s (d .loop .i) (c .before .loop-test .taken)) at (d .loop .inv .2),
     )
 

@@ -1,4 +1,4 @@
--- `frame::write_frame` meets its contract: what is laid into the content is the closed frame, and its image is written.
+-- `frame::write_frame` meets its contract: what is laid into the content is the withCheck frame, and its image is written.
 -- Assumes nothing.
 use mathlib.Core.Path.{_≡_, sym, ap, _∙_}
 use mathlib.Core.List.{List, _++_}
@@ -6,9 +6,9 @@ use Prim.Native.Nat.{ℕ, _+_}
 use native.Mathlib.Omega.{arith}
 use borrow.Author.Needs.{needs}
 use lib.ListN.{length, take, length-append}
-use Rattle.link.specs.Frame.{checkLength, closed}
+use Rattle.link.specs.Frame.{checkLength, withCheck}
 use Rattle.link.specs.Writing.{imageWritten}
-use Rattle.link.proofs.Laws.Frame.{length-closed, closed-laid}
+use Rattle.link.proofs.Laws.Frame.{length-withCheck, withCheck-laid}
 use Rattle.link.proofs.frame.write_frame.Statement.{statement}
 use Rattle.link.proofs.frame.write_frame.Tie as tie
 
@@ -17,21 +17,21 @@ entry : tie.After-content7 → tie.Start
 entry c = c .before .before .before .before .before .before .before .before .before .before .before .before .before
 
 content-is : (c : tie.After-content7)
-    → take (c .before .before .close .result) (c .before .before .close .last .1 .0)
-    ≡ closed (entry c .args .check) (entry c .args .head .now ++ entry c .args .«data» .now)
+    → take (c .before .before .lay-check .result) (c .before .before .lay-check .last .1 .0)
+    ≡ withCheck (entry c .args .check) (entry c .args .head .now ++ entry c .args .«data» .now)
 unfolding entry
 content-is c =
     let d = c .before .before .before .before .before in
-    closed-laid _ (entry c .args .check) (entry c .args .head .now) (entry c .args .«data» .now)
+    withCheck-laid _ (entry c .args .check) (entry c .args .head .now) (entry c .args .«data» .now)
     (d .before .before .before .lay .ensures)
     (d .lay2 .ensures)
-    (c .before .before .close .ensures .1)
-    (c .before .before .close .ensures .0)
+    (c .before .before .lay-check .ensures .1)
+    (c .before .before .lay-check .ensures .0)
 
 length-is : (c : tie.After-content7)
-    → length (take (c .before .before .close .result) (c .before .before .close .last .1 .0))
+    → length (take (c .before .before .lay-check .result) (c .before .before .lay-check .last .1 .0))
     ≡ length (entry c .args .head .now) + length (entry c .args .«data» .now) + checkLength (entry c .args .check)
-length-is c = rw (content-is c, length-closed, length-append)
+length-is c = rw (content-is c, length-withCheck, length-append)
 
 slice-aggregate-lay : tie.Need-slice-aggregate-lay
 slice-aggregate-lay c = search needs
@@ -45,21 +45,21 @@ slice-aggregate-lay-2 c = search needs
 lay-requires-2 : tie.Need-lay-requires-2
 lay-requires-2 c κs = search needs
 
-slice-aggregate-close : tie.Need-slice-aggregate-close
-slice-aggregate-close c = search needs
+slice-aggregate-lay-check : tie.Need-slice-aggregate-lay-check
+slice-aggregate-lay-check c = search needs
 
-add-close : tie.Need-add-close
-add-close c = search needs
+add-lay-check : tie.Need-add-lay-check
+add-lay-check c = search needs
 
-close-requires : tie.Need-close-requires
-close-requires c κs = search needs
+lay-check-requires : tie.Need-lay-check-requires
+lay-check-requires c κs = search needs
 
 array-share-prefix-content : tie.Need-array-share-prefix-content
 array-share-prefix-content c = search needs
 
 slice-aggregate-write-image : tie.Need-slice-aggregate-write-image
 unfolding entry
-slice-aggregate-write-image c = c .before .before .close .ensures .0 ∙ sym (length-is c)
+slice-aggregate-write-image c = c .before .before .lay-check .ensures .0 ∙ sym (length-is c)
 
 write-image-requires : tie.Need-write-image-requires
 unfolding entry
@@ -82,9 +82,9 @@ write-frame-spec =
     lay-requires
     slice-aggregate-lay-2
     lay-requires-2
-    slice-aggregate-close
-    add-close
-    close-requires
+    slice-aggregate-lay-check
+    add-lay-check
+    lay-check-requires
     array-share-prefix-content
     slice-aggregate-write-image
     write-image-requires

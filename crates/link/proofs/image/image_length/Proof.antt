@@ -5,7 +5,7 @@ use native.Mathlib.Omega.{arith}
 use lib.ListN.{length}
 use borrow.Author.Tests.{lt-ltb, le-ltb}
 use Rattle.link.specs.Limits.{mostContent}
-use Rattle.link.specs.Writing.{measured}
+use Rattle.link.specs.Writing.{lengthAsked}
 use borrow.Author.Needs.{needs}
 use Rattle.link.proofs.image.image_length.Statement.{statement}
 use Rattle.link.proofs.image.image_length.Tie as tie
@@ -14,7 +14,7 @@ refused-requires : tie.Need-refused-requires
 refused-requires c κs = search needs
 
 returns : tie.Need-returns
-unfolding measured
+unfolding lengthAsked
 returns c =
     let h : mostContent < length (c .before .before .before .args .content .now) = omega arith in
     simp (lt-ltb _ _ h) (c .refused .ensures)
@@ -26,7 +26,7 @@ of-requires : tie.Need-of-requires
 of-requires c κs = search needs
 
 returns-2 : tie.Need-returns-2
-unfolding measured
+unfolding lengthAsked
 returns-2 c =
     let h : length (c .before .before .before .before .args .content .now) ≤ mostContent = omega arith in
     simp (le-ltb _ _ h, ← c .before .wire-length .ensures) (c .of .ensures)

@@ -7,12 +7,11 @@ use native.Mathlib.Omega.{arith}
 use borrow.Author.Tests.{lt-ltb, le-ltb}
 use borrow.Rule.Slice.PartMut.{putMid}
 use lib.ListN.{length, set, length-set, length-take, length-drop}
-use Rattle.link.specs.declared.refusal.Counted.{Counted}
 use Rattle.link.specs.Laying.{laid}
 use Rattle.link.specs.Stuffing.{stuffing}
 use Rattle.link.specs.Image.{start, stop, image}
-use Rattle.link.specs.Refusals.{counted}
-use Rattle.link.specs.Writing.{left, imageWritten}
+use Rattle.link.specs.Refusals.{Answer, counted}
+use Rattle.link.specs.Writing.{leaving, imageWritten}
 use Rattle.link.proofs.Laws.Laying.{laid-part, length-laid}
 use Rattle.link.proofs.Laws.Image.{length-image, room-behind, image-laid}
 use borrow.Author.Needs.{needs}
@@ -58,7 +57,7 @@ unfolding imageWritten
 returns c =
     let d = c .before .before .before .before .before in
     let h : length (d .args .out .now) < length (image (d .args .content .now)) = omega (arith, length-image (d .args .content .now)) in
-    simp (lt-ltb _ _ h) (ap (λ (a : Counted). left a (d .args .out .now)) (c .refused .ensures))
+    simp (lt-ltb _ _ h) (ap (λ (a : Answer). leaving a (d .args .out .now)) (c .refused .ensures))
 
 slice-write-out : tie.Need-slice-write-out
 slice-write-out c = omega (arith, room c)
@@ -74,7 +73,6 @@ part-stuff-end c = search needs
 
 stuff-requires : tie.Need-stuff-requires
 stuff-requires c κs =
-    let d = c .before .before .before .before .before in
     simp (length-take, length-drop, length-set) (omega (arith, room (c .before)))
 
 add-out : tie.Need-add-out
@@ -87,7 +85,7 @@ of-requires : tie.Need-of-requires
 of-requires c κs = search needs
 
 same-length : tie.Need-same-length
-same-length c = rw length-set (length-back (c .before))
+same-length c = rw (length-set _ _ stop) (length-back (c .before))
 
 returns-2 : tie.Need-returns-2
 unfolding imageWritten
@@ -96,7 +94,7 @@ returns-2 c =
     let content = d .args .content .now in
     let h : length (image content) ≤ length (d .args .out .now) = omega (arith, length-image content) in
     simp (le-ltb _ _ h)
-    (ap₂ left
+    (ap₂ leaving
     (c .of .ensures ∙ ap counted (c .before .before .before .before .before .before .wire-length .ensures ∙ sym (length-image content)))
     (ap₂ (λ (l : List ℕ) (k : ℕ). set l (1 + k) stop) (back (c .before)) (c .before .before .before .stuff .ensures .0)
     ∙ image-laid content (d .args .out .now) h))

@@ -1,14 +1,13 @@
 -- `writer::write_addressed` meets its contract: each test of its refusals is a row of the refusal table.
 -- Assumes nothing.
-use mathlib.Core.Path.{sym, _∙_}
 use Prim.Native.Nat.{_≤_, _<_}
 use native.Mathlib.Omega.{arith}
 use borrow.Author.Needs.{needs}
-use borrow.Author.Tests.{lt-ltb, le-ltb}
 use lib.ListN.{length}
 use Rattle.link.specs.Limits.{mostData}
 use Rattle.link.specs.Frame.{addressedContent}
 use Rattle.link.specs.Writing.{addressedWritten}
+use Rattle.link.proofs.Laws.Stuffing.{plain-is, special-is}
 use Rattle.link.proofs.Laws.Writing.{refuses-length, refuses-address, goes-on}
 use Rattle.link.proofs.writer.write_addressed.Statement.{statement}
 use Rattle.link.proofs.writer.write_addressed.Tie as tie
@@ -30,8 +29,8 @@ unfolding addressedWritten
 returns-2 c =
     let d = c .before .before .before .before .before in
     let h : length (d .args .«data» .now) ≤ mostData = omega arith in
-    let never : 0xFC < d .args .address = omega arith in
-    rw (c .refused2 .ensures, refuses-address, h, lt-ltb 0xFC (d .args .address) never)
+    let never : 0xFD ≤ d .args .address = omega arith in
+    rw (c .refused2 .ensures, refuses-address, h, special-is (d .args .address) never (omega arith))
 
 slice-aggregate-write-frame : tie.Need-slice-aggregate-write-frame
 slice-aggregate-write-frame c = search needs
@@ -47,8 +46,8 @@ unfolding addressedWritten addressedContent
 returns-3 c =
     let d = c .before .before .before .before .before .before .before .before .before in
     let h : length (d .args .«data» .now) ≤ mostData = omega arith in
-    let kept : d .args .address ≤ 0xFC = omega arith in
-    c .before .before .write-frame .ensures ∙ sym (goes-on _ _ _ _ h (le-ltb 0xFC (d .args .address) kept))
+    let known : d .args .address < 0xFD = omega arith in
+    rw (goes-on, h, plain-is (d .args .address) known) (c .before .before .write-frame .ensures)
 
 pub write-addressed-spec : {M : Type 1} → statement M
 write-addressed-spec =

@@ -1,6 +1,6 @@
 -- `writer::write_point` meets its contract: each test of its refusals is a row of the refusal table.
 -- Assumes nothing.
-use mathlib.Core.Path.{refl, sym, _∙_}
+use mathlib.Core.Path.{_≡_, refl}
 use mathlib.Core.Bool.{false}
 use Prim.Native.Nat.{_≤_, _<_}
 use native.Mathlib.Omega.{arith}
@@ -35,8 +35,9 @@ returns-2 : tie.Need-returns-2
 unfolding pointWritten pointContent
 returns-2 c =
     let d = c .before .before .before .before .before in
+    let good : false ≡ false = refl in
     let h : length (d .before .before .before .args .«data» .now) ≤ mostData = omega arith in
-    c .before .before .write-frame .ensures ∙ sym (goes-on false _ _ _ h refl)
+    rw (goes-on, h, good) (c .before .before .write-frame .ensures)
 
 pub write-point-spec : {M : Type 1} → statement M
 write-point-spec =

@@ -1,4 +1,4 @@
--- `frame::close` meets its contract: in each arm the check called is the one that the arm names.
+-- `frame::lay_check` meets its contract: in each arm the check called is the one that the arm names.
 -- Assumes nothing.
 use mathlib.Core.Path.{refl, sym, ap, _∙_}
 use mathlib.Core.List.{[], _∷_}
@@ -9,8 +9,8 @@ use Rattle.link.specs.Laying.{laid}
 use Rattle.link.specs.Fcs.{fcsBytes}
 use Rattle.link.specs.Frame.{checkOf, checkLength}
 use borrow.Author.Needs.{needs}
-use Rattle.link.proofs.frame.close.Statement.{statement}
-use Rattle.link.proofs.frame.close.Tie as tie
+use Rattle.link.proofs.frame.lay_check.Statement.{statement}
+use Rattle.link.proofs.frame.lay_check.Tie as tie
 
 enum-told : tie.Need-enum-told
 enum-told c = search needs
@@ -88,8 +88,8 @@ returns-2 c =
           (c .before .before .before .before .before .sum .ensures),
     )
 
-pub close-spec : {M : Type 1} → statement M
-close-spec =
+pub lay-check-spec : {M : Type 1} → statement M
+lay-check-spec =
     tie.close
     (tie.spec
     enum-told
