@@ -1,7 +1,7 @@
 -- Laws of stuffing: what it makes of each byte, how long it is, and what never stands in it.
 -- Assumes nothing.
-use mathlib.Core.Path.{_≡_, refl, sym, _∙_, subst}
-use mathlib.Core.Bool.{Bool, true, false, cond, _||_, true≢false}
+use mathlib.Core.Path.{_≡_, refl, sym, ap, _∙_, subst}
+use mathlib.Core.Bool.{true, false, cond, true≢false}
 use mathlib.Core.List.{List, [], _∷_, List·Memᴰ, List·Memᴰ·not-nil, List·Memᴰ·cases-cons, List·Memᴰ·append-cases}
 use mathlib.Core.Logic.{⊎-elim}
 use Prim.Native.Nat.{ℕ, _+_, _-_, _≤_, _<_, zero-le}
@@ -10,7 +10,7 @@ use native.Mathlib.Decide.{decLe}
 use native.Mathlib.Omega.{arith}
 use lib.Dec.{eqb, lit≤}
 use lib.ListN.{length, length-append}
-use borrow.Author.Tests.{ne-eqb, eqb-false}
+use borrow.Author.Tests.{ne-eqb, eqb-true}
 use Rattle.link.specs.Stuffing.{stuffed, stuffing, special, specials}
 use Rattle.link.specs.Image.{start, stop}
 use Rattle.link.proofs.Laws.Choice.{cond-elim}
@@ -31,17 +31,24 @@ plain-is b h = simp (ne-eqb b 0xFD (omega arith), ne-eqb b 0xFE (omega arith), n
 pub special-is : (b : ℕ) → 0xFD ≤ b → b < 0x100 → special b ≡ true
 special-is b least most = by-special (λ (n : ℕ). special n ≡ true) b least most refl refl refl
 
-other : (p q r : Bool) (b : ℕ) → (p || q || r) ≡ false
-    → cond p (0xFF ∷ 0x02 ∷ []) (cond q (0xFF ∷ 0x01 ∷ []) (cond r (0xFF ∷ 0x00 ∷ []) (b ∷ []))) ≡ b ∷ []
-other true q r b e = absurd (true≢false e)
-other false true r b e = absurd (true≢false e)
-other false false true b e = absurd (true≢false e)
-other false false false b e = refl
+-- the four cases of a stuffed byte
+pub by-stuffed : (P : ℕ → List ℕ → Type 0)
+    → P 0xFD (0xFF ∷ 0x02 ∷ [])
+    → P 0xFE (0xFF ∷ 0x01 ∷ [])
+    → P 0xFF (0xFF ∷ 0x00 ∷ [])
+    → ((b : ℕ) → special b ≡ false → P b (b ∷ []))
+    → (b : ℕ) → P b (stuffed b)
+unfolding stuffed
+by-stuffed P fd fe ff plain b =
+    cond-elim (P b) (eqb b 0xFD) (λ t. rw (eqb-true b 0xFD t) fd)
+    (λ f. cond-elim (P b) (eqb b 0xFE) (λ t. rw (eqb-true b 0xFE t) fe)
+    (λ g. cond-elim (P b) (eqb b 0xFF) (λ t. rw (eqb-true b 0xFF t) ff) (λ h. plain b (rw (f, g, h)))))
 
 -- what is not special stands for itself
 pub stuffed-other : (b : ℕ) → special b ≡ false → stuffed b ≡ b ∷ []
-unfolding stuffed
-stuffed-other b = other (eqb b 0xFD) (eqb b 0xFE) (eqb b 0xFF) b
+stuffed-other =
+    by-stuffed (λ (b : ℕ) (l : List ℕ). special b ≡ false → l ≡ b ∷ [])
+    (λ e. absurd (true≢false e)) (λ e. absurd (true≢false e)) (λ e. absurd (true≢false e)) (λ b e k. refl)
 
 pub stuffed-plain : (b : ℕ) → b < 0xFD → stuffed b ≡ b ∷ []
 stuffed-plain b h = stuffed-other b (plain-is b h)
@@ -68,17 +75,9 @@ specials-most (b ∷ bs) =
     omega (arith, specials-most bs)
 
 -- a byte travels as one byte, and as two where it is special
-by-tests : (p q r : Bool) (b : ℕ)
-    → length (cond p (0xFF ∷ 0x02 ∷ []) (cond q (0xFF ∷ 0x01 ∷ []) (cond r (0xFF ∷ 0x00 ∷ []) (b ∷ []))))
-    ≡ 1 + cond (p || q || r) 1 0
-by-tests true q r b = refl
-by-tests false true r b = refl
-by-tests false false true b = refl
-by-tests false false false b = refl
-
 length-stuffed : (b : ℕ) → length (stuffed b) ≡ 1 + cond (special b) 1 0
-unfolding stuffed
-length-stuffed b = by-tests (eqb b 0xFD) (eqb b 0xFE) (eqb b 0xFF) b
+length-stuffed =
+    by-stuffed (λ (b : ℕ) (l : List ℕ). length l ≡ 1 + cond (special b) 1 0) refl refl refl (λ b e. rw e)
 
 pub length-stuffing : (content : List ℕ) → length (stuffing content) ≡ length content + specials content
 unfolding stuffing specials
@@ -95,19 +94,17 @@ pair-neither p h x m =
     (λ n. ⊎-elim (λ e. omega arith) (λ o. absurd (List·Memᴰ·not-nil o)) (List·Memᴰ·cases-cons n))
     (List·Memᴰ·cases-cons m)
 
-stuffed-neither : (b x : ℕ) → List·Memᴰ x (stuffed b) → NeitherStartNorStop x
-unfolding stuffed
-stuffed-neither b x =
-    cond-elim P (eqb b 0xFD) (λ t. pair-neither 0x02 (lit≤ tt) x)
-    (λ fd. cond-elim P (eqb b 0xFE) (λ t. pair-neither 0x01 (lit≤ tt) x)
-    (λ fe. cond-elim P (eqb b 0xFF) (λ t. pair-neither 0x00 (lit≤ tt) x)
-    (λ ff m. ⊎-elim
-    (λ e. (λ s. eqb-false b 0xFD fd (sym e ∙ s), λ s. eqb-false b 0xFE fe (sym e ∙ s)))
+plain-neither : (b : ℕ) → special b ≡ false → (x : ℕ) → List·Memᴰ x (b ∷ []) → NeitherStartNorStop x
+plain-neither b plain x m =
+    ⊎-elim
+    (λ e. (λ s. true≢false (sym (ap special (sym e ∙ s)) ∙ plain), λ s. true≢false (sym (ap special (sym e ∙ s)) ∙ plain)))
     (λ o. absurd (List·Memᴰ·not-nil o))
-    (List·Memᴰ·cases-cons m))))
-  where
-    P : List ℕ → Type 0
-    P l = List·Memᴰ x l → NeitherStartNorStop x
+    (List·Memᴰ·cases-cons m)
+
+stuffed-neither : (b x : ℕ) → List·Memᴰ x (stuffed b) → NeitherStartNorStop x
+stuffed-neither =
+    by-stuffed (λ (b : ℕ) (l : List ℕ). (x : ℕ) → List·Memᴰ x l → NeitherStartNorStop x)
+    (pair-neither 0x02 (lit≤ tt)) (pair-neither 0x01 (lit≤ tt)) (pair-neither 0x00 (lit≤ tt)) plain-neither
 
 -- stuffing has no FD and no FE in it
 pub stuffing-neither : (content : List ℕ) (x : ℕ) → List·Memᴰ x (stuffing content) → NeitherStartNorStop x

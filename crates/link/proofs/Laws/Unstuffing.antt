@@ -1,37 +1,34 @@
 -- Stuffing can be undone, so no two contents have one stuffing, or one image.
 -- Assumes nothing.
 use mathlib.Core.Path.{_≡_, refl, sym, ap, _∙_}
-use mathlib.Core.Bool.{Bool, true, false}
+use mathlib.Core.Bool.{Bool, true, false, true≢false}
 use mathlib.Core.List.{List, [], _∷_, _++_, append-cancel-left, append-cancel-right}
 use mathlib.Core.Option.{Option, none, some, Option·map}
 use Prim.Native.Nat.{ℕ, _-_, _≤_}
 use native.Mathlib.Omega.{arith}
 use lib.Dec.{eqb, leb}
-use borrow.Author.Tests.{eqb-true, leb-true}
+use borrow.Author.Tests.{eqb-true, leb-true, ne-eqb}
 use Rattle.link.specs.Stuffing.{special, stuffed, stuffing, undo, unstuffing}
 use Rattle.link.specs.Image.{start, stop, image}
 use Rattle.link.proofs.Laws.Choice.{cond-elim}
-use Rattle.link.proofs.Laws.Stuffing.{stuffed-other, stuffed-special}
+use Rattle.link.proofs.Laws.Stuffing.{by-stuffed, stuffed-other, stuffed-special}
 
 -- a content with one byte more in front
 abbrev before : ℕ → Option (List ℕ) → Option (List ℕ)
 before b = Option·map (λ (c : List ℕ). b ∷ c)
 
-plain-next : (b : ℕ) (s : List ℕ) → eqb b 0xFD ≡ false → eqb b 0xFE ≡ false → eqb b 0xFF ≡ false
-    → undo false (b ∷ s) ≡ before b (undo false s)
+plain-next : (b : ℕ) → special b ≡ false → (s : List ℕ) → undo false (b ∷ s) ≡ before b (undo false s)
 unfolding undo
-plain-next b s fd fe ff = rw (fd, fe, ff)
+plain-next b plain s =
+    let h : eqb b 0xFF ≡ false = ne-eqb b 0xFF (λ e. true≢false (rw e at plain)) in
+    rw (plain, h)
 
 -- undone, a stuffed byte is that byte
 next : (b : ℕ) (s : List ℕ) → undo false (stuffed b ++ s) ≡ before b (undo false s)
-unfolding stuffed undo
-next b s =
-    cond-elim P (eqb b 0xFD) (λ t. rw (eqb-true b 0xFD t))
-    (λ fd. cond-elim P (eqb b 0xFE) (λ t. rw (eqb-true b 0xFE t))
-    (λ fe. cond-elim P (eqb b 0xFF) (λ t. rw (eqb-true b 0xFF t)) (plain-next b s fd fe)))
-  where
-    P : List ℕ → Type 0
-    P l = undo false (l ++ s) ≡ before b (undo false s)
+unfolding undo
+next =
+    by-stuffed (λ (b : ℕ) (l : List ℕ). (s : List ℕ) → undo false (l ++ s) ≡ before b (undo false s))
+    (λ s. refl) (λ s. refl) (λ s. refl) plain-next
 
 -- unstuffing gives the content back
 pub unstuffing-stuffing : (content : List ℕ) → unstuffing (stuffing content) ≡ some content
