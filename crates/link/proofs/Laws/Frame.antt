@@ -23,7 +23,7 @@ pub length-withCheck : (check : Check) (front : List ℕ) → length (withCheck 
 unfolding withCheck
 length-withCheck check front = length-append front (checkOf check front) ∙ ap (λ (n : ℕ). length front + n) (length-check check front)
 
--- the check laid behind a front that was laid: up to the check's end, the withCheck content
+-- the check laid behind a front that was laid: up to the check's end, the content with its check
 withCheck-at : (l : List ℕ) (check : Check) (front : List ℕ)
     → take (length front + checkLength check) (laid (laid l 0 front) (length front) (checkOf check (take (length front) (laid l 0 front))))
     ≡ withCheck check front
