@@ -5,17 +5,22 @@ ghost use lib.ListN.{length};
 ghost use Rattle.link.specs.Laying.{laid};
 ghost use Rattle.link.specs.Stuffing.{stuffed as stuffedOf, stuffing as stuffingOf, specials as specialsOf};
 
+// FD, FE and FF are special: the last three of all bytes.
+const FIRST_SPECIAL: u8 = 0xFD;
+
+const ESCAPE: u8 = 0xFF;
+
 // Lays one byte, stuffed, into `room` at the place `at`, and answers the place behind it.
 fn stuff_byte(byte: u8, room: &mut [u8], at: usize) -> usize
     requires { ⌜ at + length (stuffedOf byte) ≤ length (now room) ⌝ }
     ensures { λ r. ⌜ (r ≡ at + length (stuffedOf byte)) × (now (room .exit) ≡ laid (now (room .entry)) at (stuffedOf byte)) ⌝ }
 {
-    if byte < 0xFD {
+    if byte < FIRST_SPECIAL {
         room[at] = byte;
         return at + 1;
     }
-    room[at] = 0xFF;
-    room[at + 1] = 0xFF - byte;
+    room[at] = ESCAPE;
+    room[at + 1] = ESCAPE - byte;
     at + 2
 }
 
@@ -35,12 +40,12 @@ pub(crate) fn stuff(content: &[u8], room: &mut [u8]) -> usize
 
 // How many bytes of `content` are FD, FE or FF.
 pub(crate) fn specials(content: &[u8]) -> usize
-    ensures { λ r. ⌜ (r ≡ specialsOf (now (content .entry))) × (r ≤ length (now (content .entry))) ⌝ }
+    ensures { λ r. ⌜ r ≡ specialsOf (now (content .entry)) ⌝ }
 {
     let mut count: usize = 0;
     let mut i: usize = 0;
     while i < content.len() {
-        if content[i] >= 0xFD {
+        if content[i] >= FIRST_SPECIAL {
             count += 1;
         }
         i += 1;

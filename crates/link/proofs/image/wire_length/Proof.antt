@@ -3,6 +3,7 @@
 use native.Mathlib.Omega.{arith}
 use Rattle.link.specs.Image.{imageLength}
 use borrow.Author.Needs.{needs}
+use Rattle.link.proofs.Laws.Stuffing.{specials-most}
 use Rattle.link.proofs.image.wire_length.Statement.{statement}
 use Rattle.link.proofs.image.wire_length.Tie as tie
 
@@ -13,7 +14,7 @@ specials-requires : tie.Need-specials-requires
 specials-requires c κs = search needs
 
 add-result-2 : tie.Need-add-result-2
-add-result-2 c = search needs
+add-result-2 c = omega (arith, specials-most (c .before .before .args .content .now))
 
 returns : tie.Need-returns
 unfolding imageLength
