@@ -1,5 +1,5 @@
 -- The content of a frame on each line.
--- 01, Layout of a frame, the table. Assumes nothing.
+-- 01, Layout of a frame, the table; 001 and 000, 'Кадр запроса от компьютера считывателю'. Assumes nothing.
 use Prim.Native.Nat.{ℕ}
 use mathlib.Core.List.{List, [], _∷_, _++_}
 use Rattle.link.specs.declared.frame.Check.{Check}

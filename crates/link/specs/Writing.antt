@@ -57,8 +57,8 @@ unfoldable pub addressedWritten : ℕ → ℕ → ℕ → List ℕ → List ℕ 
 addressedWritten address identifier command «data» out =
     written (isNever address) «data» (addressedContent address identifier command «data») out
 
--- The writer's rows of the refusal table, and the frame where no row applies: the four conditions exclude each other.
--- `Laws.Writing` proves that `written` answers by them.
+-- The writer's rows of the refusal table, and the frame where no row applies. `Laws.Writing` proves that `written` answers by them,
+-- and that they leave it no other answer.
 pub data ByTable (never : Bool) («data» content out : List ℕ) : After → Type 0 where
   tooLong : mostData < length «data» → ByTable never «data» content out (refusing TooLong out)
   badAddress : length «data» ≤ mostData → never ≡ true → ByTable never «data» content out (refusing BadAddress out)

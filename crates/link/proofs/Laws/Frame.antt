@@ -2,15 +2,17 @@
 -- Assumes nothing.
 use mathlib.Core.Path.{_≡_, refl, ap, _∙_}
 use mathlib.Core.List.{List, _∷_, _++_}
-use Prim.Native.Nat.{ℕ, _+_}
+use Prim.Native.Nat.{ℕ, _+_, _*_, _≤_}
 use native.Mathlib.Omega.{arith}
 use lib.ListN.{length, take, length-append}
 use Rattle.link.specs.declared.frame.Check.{Check}
 use Rattle.link.specs.declared.frame.Check.the-variants.{Fcs, Sum}
-use Rattle.link.specs.Limits.{leastContent}
+use Rattle.link.specs.Limits.{mostContent, leastContent, mostData}
 use Rattle.link.specs.Laying.{laid}
 use Rattle.link.specs.Fcs.{fcsBytes, residue, goodResidue}
+use Rattle.link.specs.Image.{image}
 use Rattle.link.specs.Frame.{checkOf, checkLength, withCheck, pointContent, addressedContent}
+use Rattle.link.proofs.Laws.Image.{most-image}
 use Rattle.link.proofs.Laws.Fcs.{good-residue}
 use Rattle.link.proofs.Laws.Laying.{take-front, laid-behind}
 
@@ -59,3 +61,23 @@ pub length-addressed : (address identifier command : ℕ) («data» : List ℕ)
 unfolding addressedContent
 length-addressed address identifier command «data» =
     omega (arith, length-withCheck Sum (address ∷ identifier ∷ command ∷ «data»))
+
+-- ---- room that holds any frame
+
+-- twice the longest content, and start and stop
+abbrev pub roomForAny : ℕ
+roomForAny = 2 + 2 * mostContent
+
+pub point-room : (identifier command : ℕ) («data» : List ℕ) → length «data» ≤ mostData
+    → length (image (pointContent identifier command «data»)) ≤ roomForAny
+point-room identifier command «data» fits =
+    omega (arith, most-image (pointContent identifier command «data»), length-point identifier command «data»)
+
+pub addressed-room : (address identifier command : ℕ) («data» : List ℕ) → length «data» ≤ mostData
+    → length (image (addressedContent address identifier command «data»)) ≤ roomForAny
+addressed-room address identifier command «data» fits =
+    omega (
+      arith,
+      most-image (addressedContent address identifier command «data»),
+      length-addressed address identifier command «data»,
+    )

@@ -1,6 +1,6 @@
 -- The writers answer by the refusal table, and write the image of every frame that no row of it names.
 -- Assumes nothing.
-use mathlib.Core.Path.{_≡_, refl, _∙_}
+use mathlib.Core.Path.{_≡_, refl, sym, _∙_}
 use mathlib.Core.Bool.{Bool, true, false}
 use mathlib.Core.List.{List}
 use Prim.Native.Nat.{ℕ, _≤_, _<_}
@@ -56,6 +56,13 @@ module _ (never : Bool) («data» content out : List ℕ) where
     where
       P : After → Type 0
       P = ByTable never «data» content out
+
+  -- so the table has one answer for each input
+  pub table-only : {w : After} → ByTable never «data» content out w → w ≡ written never «data» content out
+  table-only (tooLong long) = sym (refuses-length long)
+  table-only (badAddress fits bad) = sym (refuses-address fits bad)
+  table-only (noRoom fits good short) = sym (refuses-room fits good short)
+  table-only (frame fits good room) = sym (writes fits good room)
 
 -- ---- the same of each writer
 
