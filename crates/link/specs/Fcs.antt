@@ -8,6 +8,7 @@ use lib.Bits.{bitAnd, bitXor}
 unfoldable pub shiftStep : ℕ → ℕ
 shiftStep w = bitXor (w / 2) (bitAnd w 1 * 0x8408)
 
+-- several in a row
 unfoldable pub shiftSteps : ℕ → ℕ → ℕ
 shiftSteps zero w = w
 shiftSteps (suc n) w = shiftSteps n (shiftStep w)
@@ -17,6 +18,7 @@ shiftSteps (suc n) w = shiftSteps n (shiftStep w)
 unfoldable pub byteStep : ℕ → ℕ → ℕ
 byteStep register b = bitXor (shiftSteps 8 (bitAnd (bitXor b register) 0xFF)) (register / 0x100)
 
+-- the register after several bytes
 unfoldable pub run : ℕ → List ℕ → ℕ
 run register [] = register
 run register (b ∷ bs) = run (byteStep register b) bs

@@ -12,6 +12,7 @@ unfoldable pub checkOf : Check → List ℕ → List ℕ
 checkOf Fcs front = fcsBytes front
 checkOf Sum front = sum front ∷ []
 
+-- how many bytes it is
 abbrev pub checkLength : Check → ℕ
 checkLength Fcs = 2
 checkLength Sum = 1

@@ -40,5 +40,6 @@ undo true (p ∷ bs) =
     let known = Option·map (λ c. (0xFF - p) ∷ c) (undo false bs) in
     cond (leb p 0x02) known none
 
+-- from the first byte on nothing waits
 unfoldable pub unstuffing : List ℕ → Option (List ℕ)
 unstuffing wire = undo false wire

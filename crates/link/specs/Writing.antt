@@ -15,7 +15,7 @@ use Rattle.link.specs.Address.{isNever}
 use Rattle.link.specs.Frame.{pointContent, addressedContent}
 use Rattle.link.specs.Refusals.{Answer, answered, refused, counted}
 
--- the length asked for a content: content over 64 is TooLong
+-- 01, Refusal numbers, row 2: a length asked for content over 64 is TooLong
 unfoldable pub lengthAsked : List ℕ → Answer
 lengthAsked content = cond (ltb mostContent (length content)) (refused TooLong) (counted (imageLength content))
 
@@ -31,19 +31,19 @@ leaving answer out = record { answer = answer; out = out }
 abbrev pub after : Counted → List ℕ → After
 after r out = leaving (answered r) out
 
--- a refusal leaves every byte as it was
+-- 01, Refusal numbers, below the table: a refused call returns the number and count 0, with buffers as before
 abbrev pub refusing : Refusal → List ℕ → After
 refusing why out = leaving (refused why) out
 
--- the image stands in front, the bytes behind it stay as they were, and the count is its length
+-- 01, Layout of a frame, the last paragraph: the count is the image's length, and bytes behind the image stay as they were
 abbrev pub putting : List ℕ → List ℕ → After
 putting content out = leaving (counted (length (image content))) (image content ++ drop (length (image content)) out)
 
--- out shorter than the image is NoRoom
+-- 01, Refusal numbers, row 1: out shorter than the image is NoRoom
 unfoldable pub imageWritten : List ℕ → List ℕ → After
 imageWritten content out = cond (ltb (length out) (length (image content))) (refusing NoRoom out) (putting content out)
 
--- a writer: refusals in the order 2, 3, 1, then the image
+-- 01, Refusal numbers, rows 2 and 3, and 'Order': writer 2, 3, 1; then the image
 unfoldable pub written : Bool → List ℕ → List ℕ → List ℕ → After
 written never «data» content out =
     cond (ltb mostData (length «data»)) (refusing TooLong out)
@@ -53,6 +53,7 @@ written never «data» content out =
 unfoldable pub pointWritten : ℕ → ℕ → List ℕ → List ℕ → After
 pointWritten identifier command «data» out = written false «data» (pointContent identifier command «data») out
 
+-- an addressed frame is refused the addresses that are never one
 unfoldable pub addressedWritten : ℕ → ℕ → ℕ → List ℕ → List ℕ → After
 addressedWritten address identifier command «data» out =
     written (isNever address) «data» (addressedContent address identifier command «data») out

@@ -1,18 +1,16 @@
 -- Laws of a frame's content, over both checks.
 -- Assumes nothing.
 use mathlib.Core.Path.{_≡_, refl, ap, _∙_}
-use mathlib.Core.List.{List, _∷_, _++_}
-use Prim.Native.Nat.{ℕ, _+_, _*_, _≤_}
+use mathlib.Core.List.{List, [], _∷_, _++_}
+use Prim.Native.Nat.{ℕ, _+_}
 use native.Mathlib.Omega.{arith}
 use lib.ListN.{length, take, length-append}
 use Rattle.link.specs.declared.frame.Check.{Check}
 use Rattle.link.specs.declared.frame.Check.the-variants.{Fcs, Sum}
-use Rattle.link.specs.Limits.{mostContent, leastContent, mostData}
+use Rattle.link.specs.Limits.{leastContent}
 use Rattle.link.specs.Laying.{laid}
 use Rattle.link.specs.Fcs.{fcsBytes, residue, goodResidue}
-use Rattle.link.specs.Image.{image}
 use Rattle.link.specs.Frame.{checkOf, checkLength, withCheck, pointContent, addressedContent}
-use Rattle.link.proofs.Laws.Image.{most-image}
 use Rattle.link.proofs.Laws.Fcs.{good-residue}
 use Rattle.link.proofs.Laws.Laying.{take-front, laid-behind}
 
@@ -35,14 +33,14 @@ withCheck-at l check front =
     (take-front l (front ++ checkOf check front))
 
 -- head, data and check laid one behind the other, from one state of the buffer to the next
-pub withCheck-laid : (l : List ℕ) (check : Check) (head bytes : List ℕ) {x y z : List ℕ} {n : ℕ}
+pub withCheck-laid : (l : List ℕ) (check : Check) (head «data» : List ℕ) {x y z : List ℕ} {n : ℕ}
     → x ≡ laid l 0 head
-    → y ≡ laid x (length head) bytes
-    → z ≡ laid y (length head + length bytes) (checkOf check (take (length head + length bytes) y))
-    → n ≡ length head + length bytes + checkLength check
-    → take n z ≡ withCheck check (head ++ bytes)
-withCheck-laid l check head bytes ex ey ez en =
-    rw (en, ez, ey, ex, laid-behind l head bytes, ← length-append head bytes) (withCheck-at l check (head ++ bytes))
+    → y ≡ laid x (length head) «data»
+    → z ≡ laid y (length head + length «data») (checkOf check (take (length head + length «data») y))
+    → n ≡ length head + length «data» + checkLength check
+    → take n z ≡ withCheck check (head ++ «data»)
+withCheck-laid l check head «data» ex ey ez en =
+    rw (en, ez, ey, ex, laid-behind l head «data», ← length-append head «data») (withCheck-at l check (head ++ «data»))
 
 -- ---- of the contents of both lines
 
@@ -51,33 +49,16 @@ unfolding checkOf withCheck pointContent
 point-residue identifier command «data» = good-residue (identifier ∷ command ∷ «data»)
 
 -- a frame with no data has the least content
+length-content : (check : Check) (head «data» : List ℕ) → length head + checkLength check ≡ leastContent
+    → length (withCheck check (head ++ «data»)) ≡ leastContent + length «data»
+length-content check head «data» least = omega (arith, length-withCheck check (head ++ «data»), length-append head «data»)
+
 pub length-point : (identifier command : ℕ) («data» : List ℕ)
     → length (pointContent identifier command «data») ≡ leastContent + length «data»
 unfolding pointContent
-length-point identifier command «data» = omega (arith, length-withCheck Fcs (identifier ∷ command ∷ «data»))
+length-point identifier command «data» = length-content Fcs (identifier ∷ command ∷ []) «data» refl
 
 pub length-addressed : (address identifier command : ℕ) («data» : List ℕ)
     → length (addressedContent address identifier command «data») ≡ leastContent + length «data»
 unfolding addressedContent
-length-addressed address identifier command «data» =
-    omega (arith, length-withCheck Sum (address ∷ identifier ∷ command ∷ «data»))
-
--- ---- room that holds any frame
-
--- twice the longest content, and start and stop
-abbrev pub roomForAny : ℕ
-roomForAny = 2 + 2 * mostContent
-
-pub point-room : (identifier command : ℕ) («data» : List ℕ) → length «data» ≤ mostData
-    → length (image (pointContent identifier command «data»)) ≤ roomForAny
-point-room identifier command «data» fits =
-    omega (arith, most-image (pointContent identifier command «data»), length-point identifier command «data»)
-
-pub addressed-room : (address identifier command : ℕ) («data» : List ℕ) → length «data» ≤ mostData
-    → length (image (addressedContent address identifier command «data»)) ≤ roomForAny
-addressed-room address identifier command «data» fits =
-    omega (
-      arith,
-      most-image (addressedContent address identifier command «data»),
-      length-addressed address identifier command «data»,
-    )
+length-addressed address identifier command «data» = length-content Sum (address ∷ identifier ∷ command ∷ []) «data» refl

@@ -5,6 +5,7 @@ use mathlib.Core.List.{List, [], _∷_, _++_}
 use Prim.Native.Nat.{ℕ, _+_, _*_, _≤_}
 use native.Mathlib.Omega.{arith}
 use lib.ListN.{length, drop, set, length-append, length-set}
+use Rattle.link.specs.Limits.{mostContent}
 use Rattle.link.specs.Laying.{laid}
 use Rattle.link.specs.Stuffing.{stuffing}
 use Rattle.link.specs.Image.{start, stop, image, imageLength}
@@ -39,3 +40,10 @@ image-laid content out h =
 pub most-image : (content : List ℕ) → length (image content) ≤ 2 + 2 * length content
 unfolding imageLength
 most-image content = omega (arith, length-image content, specials-most content)
+
+-- so this much room holds the image of every content within the limit
+abbrev pub roomForAny : ℕ
+roomForAny = 2 + 2 * mostContent
+
+pub room-for-any : (content : List ℕ) → length content ≤ mostContent → length (image content) ≤ roomForAny
+room-for-any content within = omega (arith, most-image content)

@@ -1,4 +1,4 @@
--- `frame::write_frame` meets its contract: what is laid into the content is the withCheck frame, and its image is written.
+-- `frame::write_frame` meets its contract: head, data and check are laid one behind the other, and the image is written.
 -- Assumes nothing.
 use mathlib.Core.Path.{_≡_, sym, ap, _∙_}
 use mathlib.Core.List.{List, _++_}
