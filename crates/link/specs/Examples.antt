@@ -5,22 +5,43 @@ use mathlib.Core.Path.{_≡_}
 use mathlib.Core.List.{List, [], _∷_}
 use Rattle.link.specs.Stuffing.{stuffing}
 use Rattle.link.specs.Image.{image}
-use Rattle.link.specs.Frame.{pointContent, addressedContent}
+use Rattle.link.specs.declared.frame.Check.the-variants.{Fcs, Sum}
+use Rattle.link.specs.declared.line.Line.{Line}
+use Rattle.link.specs.declared.line.Line.the-variants.{Point, Addressed}
+use Rattle.link.specs.Frame.{withCheck, pointContent, addressedContent}
+use Rattle.link.specs.Events.{Name, FRAME, CHECK, SHORT, LONG, PAIR, ADDR}
+use Rattle.link.specs.Receiving.{fresh, received}
+use Rattle.link.specs.Hearing.{telling, tells}
+use lib.ListN.{replicate}
 
 -- an example: what is done, and what the paper prints for it
 pub data Example : Type 0 where
   pointImage : (identifier command : ℕ) («data» printed : List ℕ) → Example
   addressedImage : (address identifier command : ℕ) («data» printed : List ℕ) → Example
   stuffs : (content printed : List ℕ) → Example
+  -- to a fresh receiver the stream tells this first
+  hears : (line : Line) (stream : List ℕ) (place : ℕ) (event : Name) (content : List ℕ) → Example
 
 abbrev pub Holds : Example → Type 0
 Holds (pointImage identifier command «data» printed) = image (pointContent identifier command «data») ≡ printed
 Holds (addressedImage address identifier command «data» printed) = image (addressedContent address identifier command «data») ≡ printed
 Holds (stuffs content printed) = stuffing content ≡ printed
+Holds (hears line stream place event content) = tells 0 (received (fresh line) stream) ≡ telling place event content ∷ []
 
 abbrev pub EachHolds : List Example → Type 0
 EachHolds [] = Unit {0}
 EachHolds (e ∷ es) = Holds e × EachHolds es
+
+-- the master's line, and contents on both lines whose data are one byte again and again: 62 bytes before the check make 64 on the
+-- point line, 63 on the addressed line
+abbrev master : Line
+master = Addressed 0x00
+
+abbrev pointFront : ℕ → ℕ → List ℕ
+pointFront count byte = replicate count byte
+
+abbrev addressedFront : ℕ → ℕ → List ℕ
+addressedFront count byte = 0x00 ∷ replicate count byte
 
 abbrev pub examples : List Example
 examples =
@@ -36,4 +57,24 @@ examples =
     ∷ addressedImage 0x01 0xEC 0x10 [] (0xFD ∷ 0x01 ∷ 0xEC ∷ 0x10 ∷ 0xFF ∷ 0x02 ∷ 0xFE ∷ [])
     -- P12: FD FE FF stuffs to FF 02 FF 01 FF 00
     ∷ stuffs (0xFD ∷ 0xFE ∷ 0xFF ∷ []) (0xFF ∷ 0x02 ∷ 0xFF ∷ 0x01 ∷ 0xFF ∷ 0x00 ∷ [])
+    -- P7: SHORT, though its check is right
+    ∷ hears Point (0xFD ∷ 0x00 ∷ 0x00 ∷ 0xFE ∷ []) 4 SHORT []
+    -- P8: PAIR at the third byte
+    ∷ hears Point (0xFD ∷ 0xFF ∷ 0xFE ∷ []) 3 PAIR []
+    -- P9: ADDR at the second byte
+    ∷ hears master (0xFD ∷ 0x05 ∷ []) 2 ADDR []
+    -- P10: one FRAME
+    ∷ hears Point (0xFD ∷ 0xFD ∷ 0x00 ∷ 0x00 ∷ 0x47 ∷ 0x0F ∷ 0xFE ∷ []) 7 FRAME (0x00 ∷ 0x00 ∷ [])
+    -- P11: CHECK
+    ∷ hears Point (0xFD ∷ 0x00 ∷ 0x00 ∷ 0x47 ∷ 0x0E ∷ 0xFE ∷ []) 6 CHECK (0x00 ∷ 0x00 ∷ [])
+    -- content 64 passes, plain and stuffed
+    ∷ hears Point (image (withCheck Fcs (pointFront 62 0x11))) 66 FRAME (pointFront 62 0x11)
+    ∷ hears Point (image (withCheck Fcs (pointFront 62 0xFF))) 128 FRAME (pointFront 62 0xFF)
+    ∷ hears master (image (withCheck Sum (addressedFront 62 0x11))) 66 FRAME (addressedFront 62 0x11)
+    ∷ hears master (image (withCheck Sum (addressedFront 62 0xFF))) 128 FRAME (addressedFront 62 0xFF)
+    -- content 65 is LONG, at the last wire byte of the 65th
+    ∷ hears Point (image (withCheck Fcs (pointFront 63 0x11))) 66 LONG []
+    ∷ hears Point (image (withCheck Fcs (pointFront 63 0xFF))) 129 LONG []
+    ∷ hears master (image (withCheck Sum (addressedFront 63 0x11))) 66 LONG []
+    ∷ hears master (image (withCheck Sum (addressedFront 63 0xFF))) 129 LONG []
     ∷ []

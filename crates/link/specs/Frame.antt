@@ -1,7 +1,10 @@
 -- The content of a frame on each line.
 -- 01, Layout of a frame, the table; 001 and 000, 'Кадр запроса от компьютера считывателю'. Assumes nothing.
-use Prim.Native.Nat.{ℕ}
+use Prim.Native.Nat.{ℕ, _-_}
+use mathlib.Core.Bool.{Bool, true, false, _&&_}
 use mathlib.Core.List.{List, [], _∷_, _++_}
+use lib.Dec.{eqb}
+use lib.ListN.{length, take, drop}
 use Rattle.link.specs.declared.frame.Check.{Check}
 use Rattle.link.specs.declared.frame.Check.the-variants.{Fcs, Sum}
 use Rattle.link.specs.Fcs.{fcsBytes}
@@ -20,6 +23,24 @@ checkLength Sum = 1
 -- a front with its check behind it
 unfoldable pub withCheck : Check → List ℕ → List ℕ
 withCheck check front = front ++ checkOf check front
+
+-- what stands before the check, and the check that came
+unfoldable pub front : Check → List ℕ → List ℕ
+front check content = take (length content - checkLength check) content
+
+unfoldable pub came : Check → List ℕ → List ℕ
+came check content = drop (length content - checkLength check) content
+
+-- byte for byte the same
+unfoldable pub alike : List ℕ → List ℕ → Bool
+alike [] [] = true
+alike [] (b ∷ s) = false
+alike (a ∷ r) [] = false
+alike (a ∷ r) (b ∷ s) = eqb a b && alike r s
+
+-- the check that came is the check of what stands before it
+unfoldable pub isRight : Check → List ℕ → Bool
+isRight check content = alike (came check content) (checkOf check (front check content))
 
 -- identifier, command, data, FCS
 unfoldable pub pointContent : ℕ → ℕ → List ℕ → List ℕ

@@ -9,7 +9,12 @@ pub mod Image
 pub mod Fcs
 pub mod Sum
 pub mod Address
+pub mod Line
 pub mod Frame
 pub mod Refusals
 pub mod Writing
+pub mod Events
+pub mod Turning
+pub mod Receiving
+pub mod Hearing
 pub mod Examples

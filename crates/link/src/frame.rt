@@ -11,13 +11,43 @@ ghost use Prim.Native.Nat.{_+_, _≤_};
 ghost use lib.ListN.{length, take};
 ghost use Rattle.link.specs.Limits.{mostContent};
 ghost use Rattle.link.specs.Laying.{laid};
-ghost use Rattle.link.specs.Frame.{checkOf, checkLength, withCheck};
+ghost use Rattle.link.specs.Frame.{checkOf, checkLength, withCheck, isRight};
 ghost use Rattle.link.specs.Writing.{after, imageWritten};
 
 // Which check stands at the end of a content: the FCS on the point line, the sum on the addressed line.
 pub(crate) enum Check {
     Fcs,
     Sum,
+}
+
+// How many bytes it is.
+pub(crate) fn check_length(check: Check) -> usize
+    ensures { λ r. ⌜ r ≡ checkLength check ⌝ }
+{
+    match check {
+        Check::Fcs => 2,
+        Check::Sum => 1,
+    }
+}
+
+// Whether the bytes of `content` behind the first `front` are the check of those.
+pub(crate) fn is_right(check: Check, content: &[u8], front: usize) -> bool
+    requires { ⌜ front + checkLength check ≡ length (now content) ⌝ }
+    ensures { λ r. ⌜ r ≡ isRight check (now (content .entry)) ⌝ }
+{
+    match check {
+        Check::Fcs => {
+            let value = fcs(&content[..front]);
+            if content[front] as u16 != value % 256 {
+                return false;
+            }
+            content[front + 1] as u16 == value / 256
+        }
+        Check::Sum => {
+            let value = sum(&content[..front]);
+            content[front] == value
+        }
+    }
 }
 
 // Lays the check of the first `front` bytes of `content` behind them, and answers the place behind it.

@@ -12,9 +12,9 @@ ghost use Rattle.link.specs.Image.{imageLength};
 ghost use Rattle.link.specs.Refusals.{answered};
 ghost use Rattle.link.specs.Writing.{after, lengthAsked, imageWritten};
 
-const START: u8 = 0xFD;
+pub(crate) const START: u8 = 0xFD;
 
-const STOP: u8 = 0xFE;
+pub(crate) const STOP: u8 = 0xFE;
 
 // The length of a content's image. Refuses a content over 64 bytes (TooLong).
 pub fn image_length(content: &[u8]) -> Counted

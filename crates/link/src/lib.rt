@@ -1,11 +1,15 @@
 // Frames, check values and stuffing of the two serial lines of ProX card readers: the writing half.
+pub mod event;
 pub mod fcs;
 mod frame;
 pub mod image;
 mod laying;
 mod limits;
+pub mod line;
+pub mod receiver;
 pub mod refusal;
 mod stuffing;
 pub mod sum;
 mod table;
+pub mod turn;
 pub mod writer;

@@ -8,7 +8,10 @@ ghost use Rattle.link.specs.Stuffing.{stuffed as stuffedOf, stuffing as 
 // FD, FE and FF are special: the last three of all bytes.
 const FIRST_SPECIAL: u8 = 0xFD;
 
-const ESCAPE: u8 = 0xFF;
+pub(crate) const ESCAPE: u8 = 0xFF;
+
+// The partners of FF are 00, 01 and 02.
+pub(crate) const LAST_PARTNER: u8 = 0x02;
 
 // Lays one byte, stuffed, into `room` at the place `at`, and answers the place behind it.
 fn stuff_byte(byte: u8, room: &mut [u8], at: usize) -> usize

@@ -2,12 +2,11 @@
 use crate::frame::Check;
 use crate::frame::write_frame;
 use crate::limits::MOST_DATA;
+use crate::line::LAST_ADDRESS;
 use crate::refusal::Counted;
 use crate::refusal::Refusal;
 ghost use mathlib.Core.Path.{_≡_};
 ghost use Rattle.link.specs.Writing.{after, pointWritten, addressedWritten};
-
-const LAST_ADDRESS: u8 = 0xFC;
 
 // Writes the image of a point frame to the front of `out`, and answers its length. Refuses data over 60 bytes (TooLong) and `out`
 // shorter than the image (NoRoom), in this order; a refusal leaves `out` as it was.

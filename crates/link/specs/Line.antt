@@ -1,0 +1,27 @@
+-- The two lines, as a receiver hears them.
+-- 01, The two lines; Layout of a frame, the table and 'Addresses'. Assumes nothing.
+use Prim.Native.Nat.{ℕ}
+use mathlib.Core.Path.{_≡_}
+use mathlib.Core.Bool.{Bool, true}
+use mathlib.Core.List.{List, [], _∷_}
+use Rattle.link.specs.declared.frame.Check.{Check}
+use Rattle.link.specs.declared.frame.Check.the-variants.{Fcs, Sum}
+use Rattle.link.specs.declared.line.Line.{Line}
+use Rattle.link.specs.declared.line.Line.the-variants.{Point, Addressed}
+use Rattle.link.specs.Address.{isStation, takes}
+
+-- the point line's frames have an FCS, the addressed line's a sum
+abbrev pub checkOn : Line → Check
+checkOn Point = Fcs
+checkOn (Addressed station) = Sum
+
+-- on the addressed line a receiver is that of a station
+abbrev pub mayStand : Line → Bool
+mayStand Point = true
+mayStand (Addressed station) = isStation station
+
+-- on the addressed line content begins with an address, and this station takes it; the point line has no address
+abbrev pub Taken : Line → List ℕ → Type 0
+Taken Point content = Unit {0}
+Taken (Addressed station) [] = Unit {0}
+Taken (Addressed station) (address ∷ more) = takes station address ≡ true

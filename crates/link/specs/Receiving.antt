@@ -1,0 +1,129 @@
+-- What the receiver's calls answer, for every input.
+-- 01, How the receiver moves, and Refusal numbers, rows 3 and 4. Assumes nothing.
+use Prim.Native.Nat.{ℕ, _+_}
+use mathlib.Core.Bool.{Bool, true, false, cond, _||_, not}
+use mathlib.Core.List.{List, [], _∷_}
+use lib.Dec.{ltb}
+use lib.ListN.{length, take, set, replicate}
+use Rattle.link.specs.declared.refusal.Refusal.{Refusal}
+use Rattle.link.specs.declared.refusal.Refusal.the-variants.{BadAddress, BadState}
+use Rattle.link.specs.declared.event.Event.{Event}
+use Rattle.link.specs.declared.event.Event.the-variants.{None}
+use Rattle.link.specs.declared.line.Line.{Line}
+use Rattle.link.specs.declared.line.Line.the-variants.{Addressed}
+use Rattle.link.specs.declared.turn.Phase.{Phase}
+use Rattle.link.specs.declared.turn.Phase.the-variants.{Outside, Inside, Pending}
+use Rattle.link.specs.declared.turn.Turn.{Turn}
+use Rattle.link.specs.declared.turn.Turn.the-variants.{Rest, Begin, Wait, Keep, Stop, Tell}
+use Rattle.link.specs.declared.receiver.Receiver.{Receiver}
+use Rattle.link.specs.declared.receiver.Fresh.{Fresh}
+use Rattle.link.specs.declared.receiver.Heard.{Heard}
+use Rattle.link.specs.Limits.{mostContent}
+use Rattle.link.specs.Address.{isStation}
+use Rattle.link.specs.Line.{checkOn, mayStand}
+use Rattle.link.specs.Refusals.{number}
+use Rattle.link.specs.Events.{Name, named}
+use Rattle.link.specs.Turning.{turn, verdict}
+
+abbrev pub being : Line → Phase → ℕ → List ℕ → Receiver
+being line phase count content = record { line = line; phase = phase; count = count; content = content }
+
+-- ---- fresh receivers
+
+-- outside a frame, with no content
+abbrev pub fresh : Line → Receiver
+fresh line = being line Outside 0 (replicate mostContent 0)
+
+-- a call's result in the paper's numbers
+pub record Made : Type 0 where
+  pub refusal : ℕ
+  pub receiver : Receiver
+
+abbrev pub made : Fresh → Made
+made r = record { refusal = number (r .refusal); receiver = r .receiver }
+
+-- row 3: a new station given 7F or FD..FF is BadAddress
+unfoldable pub freshMade : ℕ → Made
+freshMade station = record { refusal = cond (isStation station) 0 (number BadAddress); receiver = fresh (Addressed station) }
+
+-- ---- one byte
+
+-- the receiver behind a byte; after each event it is outside a frame
+unfoldable pub moved : Receiver → Turn → Receiver
+moved s Rest = s
+moved s Begin = being (s .line) Inside 0 (s .content)
+moved s Wait = being (s .line) Pending (s .count) (s .content)
+moved s (Keep b) = being (s .line) Inside (s .count + 1) (set (s .content) (s .count) b)
+moved s Stop = being (s .line) Outside 0 (s .content)
+moved s (Tell why) = being (s .line) Outside 0 (s .content)
+
+-- whether the byte has an event, and then the event and how many bytes of the content so far it carries
+abbrev pub ends : Turn → Bool
+ends Rest = false
+ends Begin = false
+ends Wait = false
+ends (Keep b) = false
+ends Stop = true
+ends (Tell why) = true
+
+unfoldable pub event : Receiver → Turn → Event
+event s Rest = None
+event s Begin = None
+event s Wait = None
+event s (Keep b) = None
+event s Stop = verdict (checkOn (s .line)) (take (s .count) (s .content)) .event
+event s (Tell why) = why
+
+unfoldable pub carried : Receiver → Turn → ℕ
+carried s Rest = 0
+carried s Begin = 0
+carried s Wait = 0
+carried s (Keep b) = 0
+carried s Stop = verdict (checkOn (s .line)) (take (s .count) (s .content)) .length
+carried s (Tell why) = 0
+
+-- ---- one call
+
+-- a call's result in the paper's numbers and names
+pub record Said : Type 0 where
+  pub refusal : ℕ
+  pub receiver : Receiver
+  pub event : Name
+  pub content : List ℕ
+  pub length : ℕ
+  pub taken : ℕ
+
+abbrev pub saying : Heard → Said
+saying r =
+    record {
+      refusal = number (r .refusal);
+      receiver = r .receiver;
+      event = named (r .event);
+      content = r .content;
+      length = r .length;
+      taken = r .taken;
+    }
+
+-- an answer that is no refusal: the event's content stands in front of what the receiver kept
+abbrev pub telling : Receiver → Event → ℕ → ℕ → Said
+telling s event length taken =
+    record { refusal = 0; receiver = s; event = named event; content = s .content; length = length; taken = taken }
+
+-- the bytes one by one up to the first event, with a number of bytes taken before; without an event, all of them
+unfoldable pub heard : ℕ → Receiver → List ℕ → Said
+heard taken s [] = telling s None 0 taken
+heard taken s (b ∷ bs) =
+    let t = turn (s .line) (s .phase) (s .count) b in
+    let on = heard (taken + 1) (moved s t) bs in
+    cond (ends t) (telling (moved s t) (event s t) (carried s t) (taken + 1)) on
+
+-- event none, count 0, state as it came
+abbrev pub refusedState : Receiver → Said
+refusedState s = record { refusal = number BadState; receiver = s; event = named None; content = s .content; length = 0; taken = 0 }
+
+-- row 4: a count over 64, or on the addressed line an address no station may have, is BadState
+abbrev pub badState : Receiver → Bool
+badState s = ltb mostContent (s .count) || not (mayStand (s .line))
+
+unfoldable pub received : Receiver → List ℕ → Said
+received s piece = cond (badState s) (refusedState s) (heard 0 s piece)

@@ -1,0 +1,168 @@
+// The receiver of either line.
+use crate::event::Event;
+use crate::event::at_stop;
+use crate::limits::MOST_CONTENT;
+use crate::line::Line;
+use crate::line::check_on;
+use crate::line::is_station;
+use crate::line::may_stand;
+use crate::refusal::Refusal;
+use crate::turn::Phase;
+use crate::turn::Turn;
+use crate::turn::at_byte;
+ghost use mathlib.Core.Path.{_≡_};
+ghost use Prim.Native.Nat.{_≤_};
+ghost use Rattle.link.specs.Limits.{mostContent};
+ghost use Rattle.link.specs.Receiving.{fresh, made, freshMade, saying, heard, refusedState, received};
+
+// A receiver between two calls: its line, where it is, and the first `count` bytes of `content` as the content so far.
+pub struct Receiver {
+    pub line: Line,
+    pub phase: Phase,
+    pub count: usize,
+    pub content: [u8; MOST_CONTENT],
+}
+
+// A receiver for a station, and why there is none where the address was refused.
+pub struct Fresh {
+    pub refusal: Refusal,
+    pub receiver: Receiver,
+}
+
+// What one call heard: the receiver for the next call, the event with the first `length` bytes of `content`, and how many bytes of the
+// piece were taken.
+pub struct Heard {
+    pub refusal: Refusal,
+    pub receiver: Receiver,
+    pub event: Event,
+    pub content: [u8; MOST_CONTENT],
+    pub length: usize,
+    pub taken: usize,
+}
+
+impl Receiver {
+    // A fresh receiver of the point line.
+    pub fn point() -> Receiver
+        ensures { λ r. ⌜ r ≡ fresh Line.Point ⌝ }
+    {
+        Receiver::on(Line::Point)
+    }
+
+    // A fresh receiver of the addressed line for a station: 00 the master, else a reader's own address. Refuses 7F and FD..FF
+    // (BadAddress); the receiver that comes with the refusal refuses every call.
+    pub fn addressed(station: u8) -> Fresh
+        ensures { λ r. ⌜ made r ≡ freshMade station ⌝ }
+    {
+        let receiver = Receiver::on(Line::Addressed(station));
+        if is_station(station) {
+            return Fresh {
+                refusal: Refusal::None,
+                receiver,
+            };
+        }
+        Fresh {
+            refusal: Refusal::BadAddress,
+            receiver,
+        }
+    }
+
+    fn on(line: Line) -> Receiver
+        ensures { λ r. ⌜ r ≡ fresh line ⌝ }
+    {
+        Receiver {
+            line,
+            phase: Phase::Outside,
+            count: 0,
+            content: [0u8; MOST_CONTENT],
+        }
+    }
+
+    // Takes the piece up to the first event in it, or all of it where there is none. Refuses a count over 64 and an address that no
+    // station may have (BadState), and then leaves the receiver as it was.
+    pub fn receive(self, piece: &[u8]) -> Heard
+        ensures { λ r. ⌜ saying r ≡ received self (now (piece .entry)) ⌝ }
+    {
+        let line = self.line;
+        if self.count > MOST_CONTENT {
+            return self.refused();
+        }
+        if may_stand(line) {
+            return self.hear(piece);
+        }
+        self.refused()
+    }
+
+    // The same, of a receiver that no row of the refusal table names.
+    fn hear(self, piece: &[u8]) -> Heard
+        requires { ⌜ self .count ≤ mostContent ⌝ }
+        ensures { λ r. ⌜ saying r ≡ heard 0 self (now (piece .entry)) ⌝ }
+    {
+        let line = self.line;
+        let mut phase = self.phase;
+        let mut count = self.count;
+        let mut content = self.content;
+        let mut length: usize = 0;
+        let mut taken: usize = 0;
+        let event = loop {
+            if taken == piece.len() {
+                break Event::None;
+            }
+            let turn = at_byte(line, phase, count, piece[taken]);
+            taken += 1;
+            match turn {
+                Turn::Rest => {}
+                Turn::Begin => {
+                    phase = Phase::Inside;
+                    count = 0;
+                }
+                Turn::Wait => {
+                    phase = Phase::Pending;
+                }
+                Turn::Keep(byte) => {
+                    content[count] = byte;
+                    phase = Phase::Inside;
+                    count += 1;
+                }
+                Turn::Stop => {
+                    let verdict = at_stop(check_on(line), &content[..count]);
+                    phase = Phase::Outside;
+                    count = 0;
+                    length = verdict.length;
+                    break verdict.event;
+                }
+                Turn::Tell(event) => {
+                    phase = Phase::Outside;
+                    count = 0;
+                    break event;
+                }
+            }
+        };
+        Heard {
+            refusal: Refusal::None,
+            receiver: Receiver {
+                line,
+                phase,
+                count,
+                content,
+            },
+            event,
+            content,
+            length,
+            taken,
+        }
+    }
+
+    fn refused(self) -> Heard
+        ensures { λ r. ⌜ saying r ≡ refusedState self ⌝ }
+    {
+        let content = self.content;
+        Heard {
+            refusal: Refusal::BadState,
+            receiver: self,
+            event: Event::None,
+            content,
+            length: 0,
+            taken: 0,
+        }
+    }
+}
