@@ -9,8 +9,11 @@ pub mod Image
 pub mod Xor
 pub mod Fcs
 pub mod Frame
+pub mod Right
 pub mod Refusals
 pub mod Writing
 pub mod Address
+pub mod Turning
+pub mod Receiving
 pub mod Unique
 pub mod Examples

@@ -1,14 +1,36 @@
--- Each byte is just one of the four kinds of address: counted for all of them by one computed test.
+-- Each byte is just one of the four kinds of address, and what follows for stations: computed for all bytes by one test.
 -- Assumes nothing.
-use mathlib.Core.Bool.{cond}
+use mathlib.Core.Bool.{Bool, true, false, cond, not, _&&_}
 use mathlib.Core.Path.{_≡_, refl, sym, _∙_}
 use Prim.Native.Nat.{ℕ, _+_, _<_}
+use native.Mathlib.Omega.{arith}
+use lib.Dec.{leb}
 use lib.ListN.{replicate, getD-replicate}
-use Rattle.link.specs.Address.{isMaster, isBroadcast, isOwn, isNever}
-use Rattle.link.proofs.Laws.Table.{entry}
+use Rattle.link.specs.Address.{isMaster, isBroadcast, isOwn, isNever, isStation, takes}
+use Rattle.link.proofs.Laws.Table.{lists, entry}
+
+-- what the test finds of every byte holds of each
+each-byte : (f : ℕ → ℕ) → lists f 0 (replicate 0x100 1) ≡ true → (a : ℕ) → a < 0x100 → f a ≡ 1
+each-byte f test a h = sym (entry f {table = replicate 0x100 1} a h (record { test = test })) ∙ getD-replicate 0x100 a 1 0 h
 
 abbrev pub kinds : ℕ → ℕ
 kinds a = cond (isMaster a) 1 0 + cond (isBroadcast a) 1 0 + cond (isOwn a) 1 0 + cond (isNever a) 1 0
 
 pub one-kind : (a : ℕ) → a < 0x100 → kinds a ≡ 1
-one-kind a h = sym (entry kinds {table = replicate 0x100 1} a h (record { test = refl })) ∙ getD-replicate 0x100 a 1 0 h
+one-kind = each-byte kinds refl
+
+-- two tests agree
+abbrev agree : Bool → Bool → Bool
+agree s t = cond s t (not t)
+
+agree-same : (s t : Bool) → _≡_ {A = ℕ} (cond (agree s t) 1 0) 1 → s ≡ t
+agree-same true true e = refl
+agree-same true false e = absurd (omega arith)
+agree-same false true e = absurd (omega arith)
+agree-same false false e = refl
+
+-- what a station may have: all but broadcast and what is never an address
+pub station-is : (a : ℕ) → a < 0x100 → isStation a ≡ not (isBroadcast a) && leb a 0xFC
+station-is a h =
+    agree-same (isStation a) (not (isBroadcast a) && leb a 0xFC)
+    (each-byte (λ (b : ℕ). cond (agree (isStation b) (not (isBroadcast b) && leb b 0xFC)) 1 0) refl a h)

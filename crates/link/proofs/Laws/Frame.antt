@@ -2,8 +2,9 @@
 -- Assumes nothing.
 use mathlib.Core.Path.{_≡_, refl, ap, _∙_}
 use mathlib.Core.List.{List, [], _∷_, _++_}
-use Prim.Native.Nat.{ℕ, _+_}
+use Prim.Native.Nat.{ℕ, _+_, _≤_}
 use native.Mathlib.Omega.{arith}
+use lib.Dec.{lit≤}
 use lib.ListN.{length, take, length-append}
 use Rattle.link.specs.declared.frame.Check.{Check}
 use Rattle.link.specs.declared.frame.Check.the-variants.{Fcs, Sum}
@@ -18,6 +19,11 @@ pub length-check : (check : Check) (front : List ℕ) → length (checkOf check 
 unfolding checkOf fcsBytes
 length-check Fcs front = refl
 length-check Sum front = refl
+
+-- the least content has room for it
+pub check-within : (check : Check) → checkLength check ≤ leastContent
+check-within Fcs = lit≤ tt
+check-within Sum = lit≤ tt
 
 pub length-withCheck : (check : Check) (front : List ℕ) → length (withCheck check front) ≡ length front + checkLength check
 unfolding withCheck

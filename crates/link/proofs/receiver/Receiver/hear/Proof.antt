@@ -1,0 +1,181 @@
+-- `Receiver::hear` meets its contract: what is left of the piece gives what the whole piece gives.
+-- Assumes nothing.
+use mathlib.Core.Path.{_≡_, refl, sym, ap, subst, _∙_}
+use Prim.Native.Nat.{ℕ, _+_, _-_, _≤_, _<_, zero-le}
+use lib.ListN.{drop, getD, length as size, length-set, length-map}
+use Rattle.link.specs.declared.event.Event.the-variants.{None}
+use Rattle.link.specs.Receiving.{being, moved, event, carried, telling, heard}
+use Rattle.link.proofs.Laws.Turning.{Room, turn-room}
+use lib.Seq.{length-take-le}
+use native.Mathlib.Omega.{arith}
+use borrow.Author.Needs.{needs}
+use Rattle.link.specs.Limits.{mostContent}
+use Rattle.link.proofs.Laws.Receiving.{runs-out, goes-on, breaks-off}
+use Rattle.link.proofs.receiver.Receiver.hear.Statement.{statement}
+use Rattle.link.proofs.receiver.Receiver.hear.Tie as tie
+
+abbrev Inv-loop : tie.InvT-loop
+Inv-loop piece line phase₀ count₀ content₀ length₀ taken₀ phase count content length taken =
+    (taken ≤ size piece) × (count ≤ mostContent) × (size content ≡ mostContent) × (length ≡ 0)
+    × (heard taken (being line phase count content) (drop taken piece) ≡ heard 0 (being line phase₀ count₀ content₀) piece)
+
+abbrev μ-loop : tie.MeasureT-loop
+μ-loop piece line phase₀ count₀ content₀ length₀ taken₀ phase count content length taken = size piece - taken
+
+loop-holds : tie.Need-loop-holds Inv-loop μ-loop
+unfolding heard
+loop-holds c =
+    let sized = simp length-map at (c .before .before .good .0 .1 .1 .1 .1 .1 .0 .1 .0 .1) in
+    (zero-le, c .before .before .pre, sized, refl, refl)
+
+shared-slice-read-at-byte : tie.Need-shared-slice-read-at-byte Inv-loop μ-loop
+shared-slice-read-at-byte c = omega arith
+
+at-byte-requires : tie.Need-at-byte-requires Inv-loop μ-loop
+at-byte-requires c κs = search needs
+
+add-taken : tie.Need-add-taken Inv-loop μ-loop
+add-taken c = omega arith
+
+enum-told : tie.Need-enum-told Inv-loop μ-loop
+enum-told c = search needs
+
+loop-less : tie.Need-loop-less Inv-loop μ-loop
+loop-less c = omega arith
+
+loop-again : tie.Need-loop-again Inv-loop μ-loop
+unfolding moved
+loop-again c =
+    let d = c .before .before in
+    let inv = d .before .before .before .loop .inv in
+    (omega arith, inv .1, inv .2, inv .3, goes-on _ _ _ (omega arith) (sym (c .enum-told .given .1) ∙ d .at-byte .ensures) refl ∙ inv .4)
+
+enum-told-2 : tie.Need-enum-told-2 Inv-loop μ-loop
+enum-told-2 c = search needs
+
+loop-less-2 : tie.Need-loop-less-2 Inv-loop μ-loop
+loop-less-2 c = omega arith
+
+loop-again-2 : tie.Need-loop-again-2 Inv-loop μ-loop
+unfolding moved
+loop-again-2 c =
+    let d = c .before .before in
+    let inv = d .before .before .before .loop .inv in
+    (omega arith, zero-le, inv .2, inv .3, goes-on _ _ _ (omega arith) (sym (c .enum-told2 .given .1) ∙ d .at-byte .ensures) refl ∙ inv .4)
+
+enum-told-3 : tie.Need-enum-told-3 Inv-loop μ-loop
+enum-told-3 c = search needs
+
+loop-less-3 : tie.Need-loop-less-3 Inv-loop μ-loop
+loop-less-3 c = omega arith
+
+loop-again-3 : tie.Need-loop-again-3 Inv-loop μ-loop
+unfolding moved
+loop-again-3 c =
+    let d = c .before .before in
+    let inv = d .before .before .before .loop .inv in
+    (omega arith, inv .1, inv .2, inv .3, goes-on _ _ _ (omega arith) (sym (c .enum-told3 .given .1) ∙ d .at-byte .ensures) refl ∙ inv .4)
+
+enum-known-turn : tie.Need-enum-known-turn Inv-loop μ-loop
+enum-known-turn c = search needs
+
+-- the turn was to keep a byte, so there is room for it
+room : (c : tie.After-known-told Inv-loop μ-loop) → c .before .before .before .before .before .before .loop .count < mostContent
+room c =
+    let d = c .before .before .before in
+    let a = d .before .before .before in
+    subst (Room (a .loop .count)) (sym (d .at-byte .ensures) ∙ c .before .turn .given .1) (turn-room _ _ _ _)
+
+array-write-content : tie.Need-array-write-content Inv-loop μ-loop
+array-write-content c = room c
+
+add-count : tie.Need-add-count Inv-loop μ-loop
+add-count c = omega (arith, room c)
+
+loop-less-4 : tie.Need-loop-less-4 Inv-loop μ-loop
+loop-less-4 c = omega arith
+
+loop-again-4 : tie.Need-loop-again-4 Inv-loop μ-loop
+unfolding moved
+loop-again-4 c =
+    let d = c .before .before .before in
+    let inv = d .before .before .before .loop .inv in (
+      omega arith,
+      omega (arith, room c),
+      simp length-set (inv .2),
+      inv .3,
+      goes-on _ _ _ (omega arith) (sym (c .before .turn .given .1) ∙ d .at-byte .ensures) refl ∙ inv .4,
+    )
+
+enum-told-4 : tie.Need-enum-told-4 Inv-loop μ-loop
+enum-told-4 c = search needs
+
+check-on-requires : tie.Need-check-on-requires Inv-loop μ-loop
+check-on-requires c κs = search needs
+
+array-share-prefix-content : tie.Need-array-share-prefix-content Inv-loop μ-loop
+array-share-prefix-content c = omega arith
+
+slice-aggregate-at-stop : tie.Need-slice-aggregate-at-stop Inv-loop μ-loop
+slice-aggregate-at-stop c = sym (length-take-le _ _ (omega arith))
+
+at-stop-requires : tie.Need-at-stop-requires Inv-loop μ-loop
+at-stop-requires c κs = search needs
+
+enum-known-turn-2 : tie.Need-enum-known-turn-2 Inv-loop μ-loop
+enum-known-turn-2 c = search needs
+
+returns : tie.Need-returns Inv-loop μ-loop
+returns c =
+    let l = c .before .loop in
+    let s = being (c .before .before .before .before .args .self .line) (l .phase) (l .count) (l .content) in
+    ap (λ (n : ℕ). telling s None n (l .taken)) (l .inv .3) ∙ runs-out _ _ s (omega arith) ∙ l .inv .4
+
+returns-2 : tie.Need-returns-2 Inv-loop μ-loop
+unfolding moved event carried
+returns-2 c =
+    let d = c .before .before .before .before .before in
+    let inv = d .before .before .before .loop .inv in
+    rw (c .at-stop .ensures, c .before .before .check-on .ensures)
+    (breaks-off _ _ _ (omega arith) (sym (c .before .before .before .enum-told4 .given .1) ∙ d .at-byte .ensures) refl ∙ inv .4)
+
+returns-3 : tie.Need-returns-3 Inv-loop μ-loop
+unfolding moved event carried
+returns-3 c =
+    let d = c .before .before .before in
+    let inv = d .before .before .before .loop .inv in
+    rw (inv .3) (breaks-off _ _ _ (omega arith) (sym (c .before .turn2 .given .1) ∙ d .at-byte .ensures) refl ∙ inv .4)
+
+pub hear-spec : {M : Type 1} → statement M
+hear-spec =
+    tie.close
+    (tie.spec
+    Inv-loop
+    μ-loop
+    loop-holds
+    shared-slice-read-at-byte
+    at-byte-requires
+    add-taken
+    enum-told
+    loop-less
+    loop-again
+    enum-told-2
+    loop-less-2
+    loop-again-2
+    enum-told-3
+    loop-less-3
+    loop-again-3
+    enum-known-turn
+    array-write-content
+    add-count
+    loop-less-4
+    loop-again-4
+    enum-told-4
+    check-on-requires
+    array-share-prefix-content
+    slice-aggregate-at-stop
+    at-stop-requires
+    enum-known-turn-2
+    returns
+    returns-2
+    returns-3)
