@@ -15,5 +15,7 @@ pub mod Writing
 pub mod Address
 pub mod Turning
 pub mod Receiving
+pub mod View
+pub mod Cuts
 pub mod Unique
 pub mod Examples

@@ -28,10 +28,13 @@ pub record Told : Type 0 where
 abbrev pub telling : ℕ → Name → List ℕ → Told
 telling place event content = record { place = place; event = event; content = content }
 
+-- one entry, unless nothing happened
+unfoldable pub told : ℕ → Name → List ℕ → List Told
+told place event content = cond (happened event) (telling place event content ∷ []) []
+
 -- what one call tells that begins behind so many bytes of the stream
 unfoldable pub tells : ℕ → Said → List Told
-tells before said =
-    cond (happened (said .event)) (telling (before + said .taken) (said .event) (take (said .length) (said .content)) ∷ []) []
+tells before said = told (before + said .taken) (said .event) (take (said .length) (said .content))
 
 -- a receiver of this line, as the call that makes it answers unless it refuses
 pub data IsFresh : Line → Receiver → Type 0 where

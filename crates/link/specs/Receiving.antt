@@ -7,7 +7,8 @@ use lib.Dec.{ltb}
 use lib.ListN.{length, take, set, replicate}
 use Rattle.link.specs.declared.refusal.Refusal.{Refusal}
 use Rattle.link.specs.declared.refusal.Refusal.the-variants.{BadAddress, BadState}
-use Rattle.link.specs.declared.event.Event.{Event}
+use Rattle.link.specs.declared.frame.Check.{Check}
+use Rattle.link.specs.declared.event.Verdict.{Verdict}
 use Rattle.link.specs.declared.event.Event.the-variants.{None}
 use Rattle.link.specs.declared.line.Line.{Line}
 use Rattle.link.specs.declared.line.Line.the-variants.{Addressed}
@@ -57,7 +58,7 @@ moved s (Keep b) = being (s .line) Inside (s .count + 1) (set (s .content) (s .c
 moved s Stop = being (s .line) Outside 0 (s .content)
 moved s (Tell why) = being (s .line) Outside 0 (s .content)
 
--- whether the byte has an event, and then the event and how many bytes of the content so far it carries
+-- whether there is an event
 abbrev pub ends : Turn → Bool
 ends Rest = false
 ends Begin = false
@@ -66,21 +67,17 @@ ends (Keep b) = false
 ends Stop = true
 ends (Tell why) = true
 
-unfoldable pub event : Receiver → Turn → Event
-event s Rest = None
-event s Begin = None
-event s Wait = None
-event s (Keep b) = None
-event s Stop = verdict (checkOn (s .line)) (take (s .count) (s .content)) .event
-event s (Tell why) = why
+abbrev pub silent : Verdict
+silent = record { event = None; length = 0 }
 
-unfoldable pub carried : Receiver → Turn → ℕ
-carried s Rest = 0
-carried s Begin = 0
-carried s Wait = 0
-carried s (Keep b) = 0
-carried s Stop = verdict (checkOn (s .line)) (take (s .count) (s .content)) .length
-carried s (Tell why) = 0
+-- what a turn tells behind this content so far: the event, and how many bytes of the content it carries
+unfoldable pub outcome : Check → List ℕ → Turn → Verdict
+outcome check content Rest = silent
+outcome check content Begin = silent
+outcome check content Wait = silent
+outcome check content (Keep b) = silent
+outcome check content Stop = verdict check content
+outcome check content (Tell why) = record { event = why; length = 0 }
 
 -- ---- one call
 
@@ -105,17 +102,18 @@ saying r =
     }
 
 -- an answer that is no refusal: the event's content stands in front of what the receiver kept
-abbrev pub telling : Receiver → Event → ℕ → ℕ → Said
-telling s event length taken =
-    record { refusal = 0; receiver = s; event = named event; content = s .content; length = length; taken = taken }
+abbrev pub telling : Receiver → Verdict → ℕ → Said
+telling s v taken =
+    record { refusal = 0; receiver = s; event = named (v .event); content = s .content; length = v .length; taken = taken }
 
 -- the bytes one by one up to the first event, with a number of bytes taken before; without an event, all of them
 unfoldable pub heard : ℕ → Receiver → List ℕ → Said
-heard taken s [] = telling s None 0 taken
+heard taken s [] = telling s silent taken
 heard taken s (b ∷ bs) =
     let t = turn (s .line) (s .phase) (s .count) b in
     let on = heard (taken + 1) (moved s t) bs in
-    cond (ends t) (telling (moved s t) (event s t) (carried s t) (taken + 1)) on
+    let v = outcome (checkOn (s .line)) (take (s .count) (s .content)) t in
+    cond (ends t) (telling (moved s t) v (taken + 1)) on
 
 -- event none, count 0, state as it came
 abbrev pub refusedState : Receiver → Said

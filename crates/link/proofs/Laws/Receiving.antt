@@ -1,20 +1,39 @@
--- Laws of one call of a receiver: what is left of the piece gives what the whole piece gives.
+-- Laws of one call of a receiver: its refusals, and that what is left of the piece gives what the whole piece gives.
 -- Assumes nothing.
 use mathlib.Core.Path.{_≡_, sym, ap}
-use mathlib.Core.Bool.{true, false}
+use mathlib.Core.Bool.{true, false, or-true}
 use mathlib.Core.List.{List}
 use Prim.Native.Nat.{ℕ, _+_, _≤_, _<_}
-use lib.ListN.{length, drop, getD, drop-of-length-le}
-use Rattle.link.specs.declared.event.Event.the-variants.{None}
+use lib.ListN.{length, take, drop, getD, drop-of-length-le}
+use borrow.Author.Tests.{lt-ltb, le-ltb}
 use Rattle.link.specs.declared.turn.Turn.{Turn}
 use Rattle.link.specs.declared.receiver.Receiver.{Receiver}
+use Rattle.link.specs.Limits.{mostContent}
+use Rattle.link.specs.Line.{checkOn, mayStand}
 use Rattle.link.specs.Turning.{turn}
-use Rattle.link.specs.Receiving.{moved, ends, event, carried, telling, heard}
+use Rattle.link.specs.Receiving.{moved, ends, silent, outcome, telling, heard, refusedState, received}
 use Rattle.link.proofs.Laws.Lists.{drop-next}
+
+-- ---- row 4 of the refusal table: when, and else the piece is heard
+
+module _ (s : Receiver) (piece : List ℕ) where
+  pub refuses-count : mostContent < s .count → received s piece ≡ refusedState s
+  unfolding received
+  refuses-count over = rw (lt-ltb mostContent (s .count) over)
+
+  pub refuses-station : mayStand (s .line) ≡ false → received s piece ≡ refusedState s
+  unfolding received
+  refuses-station bad = rw (bad, or-true)
+
+  pub hears : s .count ≤ mostContent → mayStand (s .line) ≡ true → received s piece ≡ heard 0 s piece
+  unfolding received
+  hears within good = rw (le-ltb mostContent (s .count) within, good)
+
+-- ---- the piece byte by byte
 
 module _ (piece : List ℕ) (taken : ℕ) (s : Receiver) where
   -- at the piece's end
-  pub runs-out : length piece ≤ taken → telling s None 0 taken ≡ heard taken s (drop taken piece)
+  pub runs-out : length piece ≤ taken → telling s silent taken ≡ heard taken s (drop taken piece)
   unfolding heard
   runs-out out = rw (drop-of-length-le piece out)
 
@@ -25,6 +44,6 @@ module _ (piece : List ℕ) (taken : ℕ) (s : Receiver) where
     goes-on quiet = rw (drop-next piece taken more, ← is, quiet)
 
     -- the byte of an event
-    pub breaks-off : ends t ≡ true → telling (moved s t) (event s t) (carried s t) (taken + 1) ≡ heard taken s (drop taken piece)
+    pub breaks-off : ends t ≡ true → telling (moved s t) (outcome (checkOn (s .line)) (take (s .count) (s .content)) t) (taken + 1) ≡ heard taken s (drop taken piece)
     unfolding heard
     breaks-off told = rw (drop-next piece taken more, ← is, told)

@@ -9,7 +9,7 @@ use lib.Dec.{eqb, ltb, leb, eqb·suc-zero}
 use lib.ListN.{length}
 use borrow.Author.Tests.{eqb-true, leb-true, ltb-true, lt-ltb, le-leb, ne-eqb}
 use Rattle.link.specs.declared.event.Event.{Event}
-use Rattle.link.specs.declared.event.Event.the-variants.{Long, Pair, Addr}
+use Rattle.link.specs.declared.event.Event.the-variants.{None, Frame, Check, Short, Long, Pair, Addr}
 use Rattle.link.specs.declared.line.Line.{Line}
 use Rattle.link.specs.declared.line.Line.the-variants.{Point, Addressed}
 use Rattle.link.specs.declared.turn.Phase.{Phase}
@@ -37,6 +37,16 @@ Later (Addressed station) (suc count) = Unit {0}
 
 -- ---- why
 
+-- what a receiver gives a frame up for
+abbrev pub fault : Event → Bool
+fault None = false
+fault Frame = false
+fault Check = false
+fault Short = false
+fault Long = true
+fault Pair = true
+fault Addr = true
+
 pub data Why (line : Line) (count b : ℕ) : Phase → Turn → Type 0 where
   begins : {phase : Phase} → b ≡ start → Why line count b phase Begin
   rests : Why line count b Outside Rest
@@ -44,14 +54,14 @@ pub data Why (line : Line) (count b : ℕ) : Phase → Turn → Type 0 where
   waits : b ≡ 0xFF → Later line count → Why line count b Inside Wait
   keeps : Whole line count b → count < mostContent → Why line count b Inside (Keep b)
   pairs : b ≤ 0x02 → count < mostContent → Why line count b Pending (Keep (0xFF - b))
-  tells : {phase : Phase} {why : Event} → Why line count b phase (Tell why)
+  tells : {phase : Phase} {why : Event} → fault why ≡ true → Why line count b phase (Tell why)
 
 module _ (line : Line) (count b : ℕ) where
   -- a byte is kept if there is room for it
   kept-why : {phase : Phase} (x : ℕ) → (count < mostContent → Why line count b phase (Keep x)) → Why line count b phase (kept count x)
   unfolding kept
   kept-why {phase} x f =
-      cond-elim (Why line count b phase) (ltb count mostContent) (λ t. f (ltb-true count mostContent t)) (λ t. tells)
+      cond-elim (Why line count b phase) (ltb count mostContent) (λ t. f (ltb-true count mostContent t)) (λ t. tells refl)
 
   plain-why : Later line count → (special b ≡ false → Whole line count b) → (eqb b start ≡ false) → (eqb b stop ≡ false)
       → Why line count b Inside (plain count b)
@@ -63,7 +73,7 @@ module _ (line : Line) (count b : ℕ) where
   partner-why : Why line count b Pending (partner count b)
   unfolding partner
   partner-why =
-      cond-elim (Why line count b Pending) (leb b 0x02) (λ t. kept-why (0xFF - b) (pairs (leb-true b 0x02 t))) (λ f. tells)
+      cond-elim (Why line count b Pending) (leb b 0x02) (λ t. kept-why (0xFF - b) (pairs (leb-true b 0x02 t))) (λ f. tells refl)
 
 -- behind the address the addressed line is like the point line
 later-content : (station count b : ℕ) → content (Addressed station) (suc count) b ≡ plain (suc count) b
@@ -75,7 +85,7 @@ unfolding content
 content-why Point count b f g = plain-why Point count b tt (λ e. e) f g
 content-why (Addressed station) zero b f g =
     cond-elim (Why (Addressed station) zero b Inside) (takes station b)
-    (λ t. kept-why (Addressed station) zero b b (keeps t)) (λ t. tells)
+    (λ t. kept-why (Addressed station) zero b b (keeps t)) (λ t. tells refl)
 content-why (Addressed station) (suc count) b f g =
     rw (later-content station count b) (plain-why (Addressed station) (suc count) b tt (λ e. e) f g)
 
@@ -109,7 +119,7 @@ why-room (stops s) = tt
 why-room (waits s later) = tt
 why-room (keeps whole room) = room
 why-room (pairs known room) = room
-why-room tells = tt
+why-room (tells f) = tt
 
 pub turn-room : (line : Line) (phase : Phase) (count b : ℕ) → Room count (turn line phase count b)
 turn-room line phase count b = why-room (turn-why line phase count b)

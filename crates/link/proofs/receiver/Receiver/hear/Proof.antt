@@ -4,7 +4,7 @@ use mathlib.Core.Path.{_≡_, refl, sym, ap, subst, _∙_}
 use Prim.Native.Nat.{ℕ, _+_, _-_, _≤_, _<_, zero-le}
 use lib.ListN.{drop, getD, length as size, length-set, length-map}
 use Rattle.link.specs.declared.event.Event.the-variants.{None}
-use Rattle.link.specs.Receiving.{being, moved, event, carried, telling, heard}
+use Rattle.link.specs.Receiving.{being, moved, outcome, telling, heard}
 use Rattle.link.proofs.Laws.Turning.{Room, turn-room}
 use lib.Seq.{length-take-le}
 use native.Mathlib.Omega.{arith}
@@ -129,10 +129,10 @@ returns : tie.Need-returns Inv-loop μ-loop
 returns c =
     let l = c .before .loop in
     let s = being (c .before .before .before .before .args .self .line) (l .phase) (l .count) (l .content) in
-    ap (λ (n : ℕ). telling s None n (l .taken)) (l .inv .3) ∙ runs-out _ _ s (omega arith) ∙ l .inv .4
+    ap (λ (n : ℕ). telling s (record { event = None; length = n }) (l .taken)) (l .inv .3) ∙ runs-out _ _ s (omega arith) ∙ l .inv .4
 
 returns-2 : tie.Need-returns-2 Inv-loop μ-loop
-unfolding moved event carried
+unfolding moved outcome
 returns-2 c =
     let d = c .before .before .before .before .before in
     let inv = d .before .before .before .loop .inv in
@@ -140,7 +140,7 @@ returns-2 c =
     (breaks-off _ _ _ (omega arith) (sym (c .before .before .before .enum-told4 .given .1) ∙ d .at-byte .ensures) refl ∙ inv .4)
 
 returns-3 : tie.Need-returns-3 Inv-loop μ-loop
-unfolding moved event carried
+unfolding moved outcome
 returns-3 c =
     let d = c .before .before .before in
     let inv = d .before .before .before .loop .inv in

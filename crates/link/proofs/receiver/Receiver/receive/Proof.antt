@@ -1,39 +1,34 @@
+-- `Receiver::receive` meets its contract: its tests are row 4 of the refusal table.
+-- Assumes nothing.
+use mathlib.Core.Path.{sym, _∙_}
+use native.Mathlib.Omega.{arith}
+use Rattle.link.proofs.Laws.Receiving.{refuses-count, refuses-station, hears}
 use borrow.Author.Needs.{needs}
 use Rattle.link.proofs.receiver.Receiver.receive.Statement.{statement}
 use Rattle.link.proofs.receiver.Receiver.receive.Tie as tie
-use Rattle.link.proofs.receiver.Receiver.receive.Reads as reads
-use Rattle.link.proofs.receiver.Receiver.receive.Lts as lts
-use Rattle.link.proofs.line.may_stand.Reads as may-stand-reads
-use Rattle.link.proofs.receiver.Receiver.hear.Reads as hear-reads
-use Rattle.link.proofs.receiver.Receiver.refused.Reads as refused-reads
 
--- src/receiver.rt:87:13
 refused-requires : tie.Need-refused-requires
 refused-requires c κs = search needs
 
--- src/receiver.rt:87:13
 returns : tie.Need-returns
-returns c = ?
+returns c = c .refused .ensures ∙ sym (refuses-count _ _ (c .before .if1 .taken))
 
--- src/receiver.rt:89:12
 may-stand-requires : tie.Need-may-stand-requires
 may-stand-requires c κs = search needs
 
--- src/receiver.rt:90:13
 hear-requires : tie.Need-hear-requires
 hear-requires c κs = search needs
 
--- src/receiver.rt:90:13
 returns-2 : tie.Need-returns-2
-returns-2 c = ?
+returns-2 c =
+    c .hear .ensures
+    ∙ sym (hears _ _ (c .before .before .before .if1 .left) (sym (c .before .before .may-stand .ensures) ∙ c .before .if2 .taken))
 
--- src/receiver.rt:92:9
 refused-requires-2 : tie.Need-refused-requires-2
 refused-requires-2 c κs = search needs
 
--- src/receiver.rt:82:5
 returns-3 : tie.Need-returns-3
-returns-3 c = ?
+returns-3 c = c .refused2 .ensures ∙ sym (refuses-station _ _ (sym (c .before .before .may-stand .ensures) ∙ c .before .if2 .left))
 
 pub receive-spec : {M : Type 1} → statement M
 receive-spec =
