@@ -17,5 +17,7 @@ pub mod Turning
 pub mod Receiving
 pub mod View
 pub mod Cuts
+pub mod Crew
+pub mod Desk
 pub mod Unique
 pub mod Examples

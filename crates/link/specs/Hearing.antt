@@ -12,8 +12,7 @@ use Rattle.link.specs.declared.receiver.Fresh.{Fresh}
 use Rattle.link.specs.declared.receiver.Heard.{Heard}
 use Rattle.link.specs.Limits.{leastContent, mostContent}
 use Rattle.link.specs.Image.{image}
-use Rattle.link.specs.Frame.{withCheck}
-use Rattle.link.specs.Line.{checkOn, Taken}
+use Rattle.link.specs.Line.{checked, Taken}
 use Rattle.link.specs.Events.{Name, FRAME, happened}
 use Rattle.link.specs.Receiving.{fresh, made, freshMade, Said, saying, received}
 
@@ -54,16 +53,16 @@ pub data Hearing (stream : List ℕ) : Receiver → ℕ → List Told → Type 0
 
 -- ---- what stands in the stream
 
--- The frame's complete wire image stands in the stream and ends at this place: its content with the check behind it has 4 to 64 bytes,
--- and on the addressed line an address that this station takes.
+-- The complete wire image of this content, with its check behind it, stands in the stream and ends at this place. With its check it has
+-- 4 to 64 bytes, and on the addressed line its address is one that this station takes.
 pub record Stands (line : Line) (stream : List ℕ) (place : ℕ) (content : List ℕ) : Type 0 where
   pub before : List ℕ
   pub after : List ℕ
-  pub split : stream ≡ before ++ (image (withCheck (checkOn line) content) ++ after)
-  pub ends : place ≡ length before + length (image (withCheck (checkOn line) content))
-  pub least : leastContent ≤ length (withCheck (checkOn line) content)
-  pub most : length (withCheck (checkOn line) content) ≤ mostContent
-  pub taken : Taken line content
+  pub split : stream ≡ before ++ (image (checked line content) ++ after)
+  pub ends : place ≡ length before + length (image (checked line content))
+  pub least : leastContent ≤ length (checked line content)
+  pub most : length (checked line content) ≤ mostContent
+  pub taken : Taken line (checked line content)
 
 -- places strictly rise, from behind a place on
 abbrev pub Rise : ℕ → List Told → Type 0

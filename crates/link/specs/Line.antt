@@ -9,11 +9,16 @@ use Rattle.link.specs.declared.frame.Check.the-variants.{Fcs, Sum}
 use Rattle.link.specs.declared.line.Line.{Line}
 use Rattle.link.specs.declared.line.Line.the-variants.{Point, Addressed}
 use Rattle.link.specs.Address.{isStation, takes}
+use Rattle.link.specs.Frame.{withCheck}
 
 -- the point line's frames have an FCS, the addressed line's a sum
 abbrev pub checkOn : Line → Check
 checkOn Point = Fcs
 checkOn (Addressed station) = Sum
+
+-- what stands before the check, with the line's check behind it: a content
+abbrev pub checked : Line → List ℕ → List ℕ
+checked line front = withCheck (checkOn line) front
 
 -- on the addressed line a receiver is that of a station
 abbrev pub mayStand : Line → Bool

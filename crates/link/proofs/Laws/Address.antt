@@ -1,12 +1,16 @@
 -- Each byte is just one of the four kinds of address, and what follows for stations: computed for all bytes by one test.
 -- Assumes nothing.
-use mathlib.Core.Bool.{Bool, true, false, cond, not, _&&_}
+use mathlib.Core.Bool.{Bool, true, false, cond, not, _&&_, and-eq-true-iff}
 use mathlib.Core.Path.{_≡_, refl, sym, _∙_}
 use Prim.Native.Nat.{ℕ, _+_, _<_}
 use native.Mathlib.Omega.{arith}
-use lib.Dec.{leb}
+use lib.Dec.{eqb, leb}
 use lib.ListN.{replicate, getD-replicate}
+use borrow.Author.Tests.{eqb-true, leb-true}
+use Rattle.link.specs.Stuffing.{special}
 use Rattle.link.specs.Address.{isMaster, isBroadcast, isOwn, isNever, isStation, takes}
+use Rattle.link.proofs.Laws.Choice.{cond-elim, or-elim}
+use Rattle.link.proofs.Laws.Stuffing.{plain-is}
 use Rattle.link.proofs.Laws.Table.{lists, entry}
 
 -- what the test finds of every byte holds of each
@@ -34,3 +38,23 @@ pub station-is : (a : ℕ) → a < 0x100 → isStation a ≡ not (isBroadcast a)
 station-is a h =
     agree-same (isStation a) (not (isBroadcast a) && leb a 0xFC)
     (each-byte (λ (b : ℕ). cond (agree (isStation b) (not (isBroadcast b) && leb b 0xFC)) 1 0) refl a h)
+
+-- a station takes no byte that stuffing changes
+own-lt : (a : ℕ) → isOwn a ≡ true → a < 0xFD
+own-lt a =
+    or-elim (leb 0x01 a && leb a 0x7E) (leb 0x80 a && leb a 0xFC)
+    (λ t. omega (arith, leb-true a 0x7E (and-eq-true-iff (leb 0x01 a) (leb a 0x7E) .0 t .1)))
+    (λ t. omega (arith, leb-true a 0xFC (and-eq-true-iff (leb 0x80 a) (leb a 0xFC) .0 t .1)))
+
+station-lt : (station : ℕ) → isStation station ≡ true → station < 0xFD
+station-lt station = or-elim (isMaster station) (isOwn station) (λ t. omega (arith, eqb-true station 0x00 t)) (own-lt station)
+
+takes-lt : (station a : ℕ) → isStation station ≡ true → takes station a ≡ true → a < 0xFD
+unfolding takes
+takes-lt station a good =
+    cond-elim (λ (t : Bool). t ≡ true → a < 0xFD) (isMaster station) (λ m e. omega (arith, eqb-true a 0x00 e))
+    (λ m. or-elim (eqb a station) (isBroadcast a) (λ e. omega (arith, eqb-true a station e, station-lt station good))
+    (λ e. omega (arith, eqb-true a 0x7F e)))
+
+pub takes-plain : (station a : ℕ) → isStation station ≡ true → takes station a ≡ true → special a ≡ false
+takes-plain station a good taken = plain-is a (takes-lt station a good taken)

@@ -1,9 +1,14 @@
--- A choice taken apart by its test.
+-- A choice, and two tests in one, taken apart.
 -- Assumes nothing.
 use mathlib.Core.Path.{_≡_, refl}
-use mathlib.Core.Bool.{Bool, true, false, cond}
+use mathlib.Core.Bool.{Bool, true, false, cond, _||_}
 
 -- what holds of the first where the test is true, and of the second where it is false, holds of the choice
 pub cond-elim : {A : Type 0} (P : A → Type 0) (t : Bool) {x y : A} → (t ≡ true → P x) → (t ≡ false → P y) → P (cond t x y)
 cond-elim P true f g = f refl
 cond-elim P false f g = g refl
+
+-- what follows from either of two tests follows where one of them is true
+pub or-elim : {P : Type 0} (s t : Bool) → (s ≡ true → P) → (t ≡ true → P) → (s || t) ≡ true → P
+or-elim true t f g e = f refl
+or-elim false t f g e = g e

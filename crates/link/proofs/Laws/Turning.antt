@@ -9,7 +9,7 @@ use lib.Dec.{eqb, ltb, leb, eqb·suc-zero}
 use lib.ListN.{length}
 use borrow.Author.Tests.{eqb-true, leb-true, ltb-true, lt-ltb, le-leb, ne-eqb}
 use Rattle.link.specs.declared.event.Event.{Event}
-use Rattle.link.specs.declared.event.Event.the-variants.{None, Frame, Check, Short, Long, Pair, Addr}
+use Rattle.link.specs.declared.event.Event.the-variants.{Long, Pair, Addr}
 use Rattle.link.specs.declared.line.Line.{Line}
 use Rattle.link.specs.declared.line.Line.the-variants.{Point, Addressed}
 use Rattle.link.specs.declared.turn.Phase.{Phase}
@@ -20,6 +20,7 @@ use Rattle.link.specs.Limits.{mostContent}
 use Rattle.link.specs.Stuffing.{special}
 use Rattle.link.specs.Image.{start, stop}
 use Rattle.link.specs.Address.{takes}
+use Rattle.link.specs.Events.{Name, NONE, FRAME, CHECK, SHORT, LONG, PAIR, ADDR, named}
 use Rattle.link.specs.Turning.{kept, plain, partner, content, inside, within, turn}
 use Rattle.link.proofs.Laws.Choice.{cond-elim}
 
@@ -38,14 +39,14 @@ Later (Addressed station) (suc count) = Unit {0}
 -- ---- why
 
 -- what a receiver gives a frame up for
-abbrev pub fault : Event → Bool
-fault None = false
-fault Frame = false
-fault Check = false
-fault Short = false
-fault Long = true
-fault Pair = true
-fault Addr = true
+abbrev pub fault : Name → Bool
+fault NONE = false
+fault FRAME = false
+fault CHECK = false
+fault SHORT = false
+fault LONG = true
+fault PAIR = true
+fault ADDR = true
 
 pub data Why (line : Line) (count b : ℕ) : Phase → Turn → Type 0 where
   begins : {phase : Phase} → b ≡ start → Why line count b phase Begin
@@ -54,7 +55,7 @@ pub data Why (line : Line) (count b : ℕ) : Phase → Turn → Type 0 where
   waits : b ≡ 0xFF → Later line count → Why line count b Inside Wait
   keeps : Whole line count b → count < mostContent → Why line count b Inside (Keep b)
   pairs : b ≤ 0x02 → count < mostContent → Why line count b Pending (Keep (0xFF - b))
-  tells : {phase : Phase} {why : Event} → fault why ≡ true → Why line count b phase (Tell why)
+  tells : {phase : Phase} {why : Event} → fault (named why) ≡ true → Why line count b phase (Tell why)
 
 module _ (line : Line) (count b : ℕ) where
   -- a byte is kept if there is room for it
