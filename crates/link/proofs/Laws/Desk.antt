@@ -1,8 +1,8 @@
 -- The desk's half of demand 3: inside a frame the bytes since its start are the stuffing of the content so far, so a FRAME is told only
 -- where a whole image stands.
 -- Assumes nothing.
-use mathlib.Core.Path.{_≡_, refl, sym, ap, _∙_}
-use mathlib.Core.Bool.{Bool, true, false, cond}
+use mathlib.Core.Path.{_≡_, refl, sym, ap, ap₂, subst, _∙_}
+use mathlib.Core.Bool.{true, false, false≢true}
 use mathlib.Core.List.{List, [], _∷_, _++_, append-assoc, append-nil, List·Memᴰ, List·Memᴰ·not-nil, List·Memᴰ·append-cases, List·Memᴰ·eq-of-singleton}
 use mathlib.Core.Logic.{⊎-elim}
 use Prim.Native.Nat.{ℕ, zero, suc, _+_, _-_, _≤_, _<_, zero-le}
@@ -23,8 +23,8 @@ use Rattle.link.specs.declared.turn.Turn.the-variants.{Rest, Begin, Wait
 use Rattle.link.specs.Limits.{leastContent, mostContent}
 use Rattle.link.specs.Stuffing.{special, stuffed, stuffing}
 use Rattle.link.specs.Image.{start, stop, image}
-use Rattle.link.specs.Frame.{withCheck, isRight}
-use Rattle.link.specs.Line.{checkOn, mayStand, Taken}
+use Rattle.link.specs.Frame.{checkLength, withCheck, front, isRight}
+use Rattle.link.specs.Line.{checkOn, checked, mayStand, Taken}
 use Rattle.link.specs.Events.{Name, FRAME, named, happened}
 use Rattle.link.specs.Turning.{verdict}
 use Rattle.link.specs.Receiving.{outcome}
@@ -120,3 +120,82 @@ module _ (line : Line) (good : mayStand line ≡ true) (heard : List ℕ) where
       (append-assoc (wire k) (0xFF ∷ []) (b ∷ []) ∙ (rw pair at (wire-more k x)))
       (simp length-append (omega arith)) (taken-later line k x (e .0 .taken) (e .1))
   trace-next k b (tells f) e = tt
+
+-- ---- where a FRAME is told
+
+-- a stop byte tells FRAME only behind a content that is long enough and whose check is right; it carries what stands before the check
+record IsFrame (check : Check) (k : List ℕ) (v : Verdict) : Type 0 where
+  least : leastContent ≤ length k
+  whole : k ≡ withCheck check (front check k)
+  carried : take (v .length) k ≡ front check k
+
+verdict-frame : (check : Check) (k : List ℕ) → FRAME ≡ named (verdict check k .event) → IsFrame check k (verdict check k)
+unfolding verdict front
+verdict-frame check k =
+    cond-elim P (ltb (length k) leastContent) (λ t e. let z : _≡_ {A = ℕ} 0 1 = cc in absurd (omega arith))
+    (λ f. cond-elim (λ (n : Event). P (record { event = n; length = length k - checkLength check })) (isRight check k)
+    (λ r e. record { least = ltb-false (length k) leastContent f; whole = right-withCheck check k r; carried = refl })
+    (λ w e. let z : _≡_ {A = ℕ} 0 1 = cc in absurd (omega arith)))
+  where
+    P : Verdict → Type 0
+    P v = FRAME ≡ named (v .event) → IsFrame check k v
+
+told-frame : {place p : ℕ} {content c : List ℕ} (n : Name) → List·Memᴰ (telling place FRAME content) (told p n c)
+    → (place ≡ p) × (FRAME ≡ n) × (content ≡ c)
+unfolding told
+told-frame {place} {p} {content} {c} n =
+    cond-elim (λ (l : List Told). List·Memᴰ (telling place FRAME content) l → (place ≡ p) × (FRAME ≡ n) × (content ≡ c)) (happened n)
+    (λ t m. let e = List·Memᴰ·eq-of-singleton m in
+    (ap (λ (x : Told). x .place) e, ap (λ (x : Told). x .event) e, ap (λ (x : Told). x .content) e))
+    (λ f m. absurd (List·Memᴰ·not-nil m))
+
+module _ (line : Line) (good : mayStand line ≡ true) where
+  -- the start, the stuffing of a content and a stop are its image
+  image-stands : {content k heard : List ℕ} (rest : List ℕ) (b : ℕ) → checked line content ≡ k → leastContent ≤ length k → b ≡ stop
+      → Ends line heard k (wire k)
+      → Stands line (heard ++ (b ∷ rest)) (length heard + 1) content
+  unfolding image
+  image-stands {content} {k} {heard} rest b is least s e =
+      let whole : heard ++ (b ∷ rest) ≡ e .before ++ (image k ++ rest) =
+      ap₂ (λ (h : List ℕ) (x : ℕ). h ++ (x ∷ rest)) (e .split) s
+      ∙ append-assoc (e .before) (wire k) (stop ∷ rest)
+      ∙ ap (λ (l : List ℕ). e .before ++ (start ∷ l)) (sym (append-assoc (stuffing k) (stop ∷ []) rest)) in
+      let end : length heard + 1 ≡ length (e .before) + length (image k) =
+      omega (arith, ap length (e .split), length-append (e .before) (wire k), length-append (stuffing k) (stop ∷ [])) in
+      record { before = e .before; after = rest; split = rw is whole; ends = rw is end; least = rw is least; most = rw is (e .most); taken = rw is (e .taken) }
+
+  stop-stands : (heard k rest : List ℕ) (b : ℕ) → b ≡ stop → Ends line heard k (wire k) → FRAME ≡ named (verdict (checkOn line) k .event)
+      → Stands line (heard ++ (b ∷ rest)) (length heard + 1) (take (verdict (checkOn line) k .length) k)
+  stop-stands heard k rest b s e frame =
+      let f = verdict-frame (checkOn line) k frame in
+      image-stands rest b (ap (withCheck (checkOn line)) (f .carried) ∙ sym (f .whole)) (f .least) s e
+
+  entry-stands : (heard rest : List ℕ) {phase : Phase} (k : List ℕ) (b place : ℕ) (content : List ℕ) {t : Turn}
+      → Why line (length k) b phase t → Trace line heard phase k
+      → List·Memᴰ (telling place FRAME content) (entry line (being phase k) (length heard + 1) t)
+      → Stands line (heard ++ (b ∷ rest)) place content
+  unfolding entry outcome told
+  entry-stands heard rest k b place content (begins s) e m = absurd (List·Memᴰ·not-nil m)
+  entry-stands heard rest k b place content rests e m = absurd (List·Memᴰ·not-nil m)
+  entry-stands heard rest k b place content (stops s) e m =
+      let f = told-frame (named (verdict (checkOn line) k .event)) m in
+      rw (f .0, f .2) (stop-stands heard k rest b s e (f .1))
+  entry-stands heard rest k b place content (waits s l) e m = absurd (List·Memᴰ·not-nil m)
+  entry-stands heard rest k b place content (keeps w room) e m = absurd (List·Memᴰ·not-nil m)
+  entry-stands heard rest k b place content (pairs known room) e m = absurd (List·Memᴰ·not-nil m)
+  entry-stands heard rest k b place content (tells {why} f) e m =
+      absurd (false≢true (ap fault (told-frame (named why) m .1) ∙ f))
+
+  pub tell-stands : (w heard : List ℕ) (v : View) → Trace line heard (v .phase) (v .kept) → (place : ℕ) (content : List ℕ)
+      → List·Memᴰ (telling place FRAME content) (tell line v (length heard) w)
+      → Stands line (heard ++ w) place content
+  unfolding tell
+  tell-stands [] heard v e place content m = absurd (List·Memᴰ·not-nil m)
+  tell-stands (b ∷ bs) heard v e place content m =
+      let t = turns line v b in
+      let why = turn-why line (v .phase) (length (v .kept)) b in
+      let on = tell-stands bs (heard ++ (b ∷ [])) (next v t) (trace-next line good heard (v .kept) b why e) place content in
+      let end : length heard + 1 ≡ length (heard ++ (b ∷ [])) = sym (length-append heard (b ∷ [])) in
+      ⊎-elim (entry-stands heard bs (v .kept) b place content why e)
+      (λ n. rw append-assoc at (on (subst (λ (at : ℕ). List·Memᴰ (telling place FRAME content) (tell line (next v t) at bs)) end n)))
+      (List·Memᴰ·append-cases (entry line v (length heard + 1) t) m)
