@@ -19,5 +19,6 @@ pub mod View
 pub mod Cuts
 pub mod Crew
 pub mod Desk
+pub mod Demand
 pub mod Unique
 pub mod Examples

@@ -1,0 +1,135 @@
+-- Demand 3: the FRAMEs that a hearing tells are exactly the frames whose image stands in the stream. And what else people will ask: that
+-- the cuts do not matter, and that there is a hearing of every stream.
+-- Assumes nothing.
+use mathlib.Core.Path.{_≡_, refl, sym, ap, ap₂, subst, subst⁻¹, _∙_}
+use mathlib.Core.Bool.{Bool, true, false, cond}
+use mathlib.Core.List.{List, [], _∷_, _++_, append-assoc, List·Memᴰ, List·Memᴰ·head, Memᴰ·append-left, Memᴰ·append-right}
+use Prim.Native.Nat.{ℕ, zero, suc, _+_, _-_, _≤_, _<_}
+use native.Mathlib.Nat.{add-zero, zero-add}
+use native.Mathlib.Omega.{arith}
+use lib.ListN.{length, take, drop}
+use borrow.Author.Tests.{le-ltb}
+use Rattle.link.specs.declared.refusal.Refusal.the-variants.{BadAddress}
+use Rattle.link.specs.declared.frame.Check.{Check}
+use Rattle.link.specs.declared.event.Event.the-variants.{Frame}
+use Rattle.link.specs.declared.event.Verdict.{Verdict}
+use Rattle.link.specs.declared.line.Line.{Line}
+use Rattle.link.specs.declared.line.Line.the-variants.{Point, Addressed}
+use Rattle.link.specs.declared.turn.Phase.the-variants.{Inside}
+use Rattle.link.specs.declared.turn.Turn.the-variants.{Stop}
+use Rattle.link.specs.declared.receiver.Receiver.{Receiver}
+use Rattle.link.specs.Limits.{leastContent}
+use Rattle.link.specs.Address.{isStation}
+use Rattle.link.specs.Image.{image}
+use Rattle.link.specs.Frame.{checkLength, withCheck, front, isRight}
+use Rattle.link.specs.Line.{checkOn, checked, mayStand, Taken}
+use Rattle.link.specs.Refusals.{number}
+use Rattle.link.specs.Events.{Name, FRAME, happened, named}
+use Rattle.link.specs.Turning.{verdict}
+use Rattle.link.specs.Receiving.{fresh, Made, made, freshMade, outcome}
+use Rattle.link.specs.Hearing.{Told, telling, told, IsFresh, point, addressed, Hearing, Stands, Rise, Lists}
+use Rattle.link.proofs.Laws.Choice.{cond-elim}
+use Rattle.link.proofs.Laws.Right.{front-withCheck, withCheck-right}
+use Rattle.link.proofs.Laws.View.{View, being, outside, seen, turns, next, entry, Fit, fresh-fit}
+use Rattle.link.proofs.Laws.Cuts.{tell, hearing-tells}
+use Rattle.link.proofs.Laws.Crew.{image-tells}
+use Rattle.link.proofs.Laws.Desk.{tell-stands}
+
+-- ---- a fresh receiver
+
+pub record Begins (line : Line) (s : Receiver) : Type 0 where
+  pub good : mayStand line ≡ true
+  pub fit : Fit line s
+  pub nowhere : seen s ≡ outside
+
+begins : (line : Line) → mayStand line ≡ true → Begins line (fresh line)
+begins line good = record { good = good; fit = fresh-fit line; nowhere = refl }
+
+accepted : (t : Bool) → cond t 0 (number BadAddress) ≡ 0 → t ≡ true
+accepted true e = refl
+accepted false e = absurd (omega arith)
+
+pub fresh-begins : {line : Line} {s : Receiver} → IsFresh line s → Begins line s
+unfolding freshMade
+fresh-begins (point e) = subst⁻¹ (Begins Point) e (begins Point refl)
+fresh-begins (addressed r {station} says taken) =
+    let good = accepted (isStation station) (sym (ap (λ (m : Made). m .refusal) says) ∙ taken) in
+    subst⁻¹ (Begins (Addressed station)) (ap (λ (m : Made). m .receiver) says) (begins (Addressed station) good)
+
+-- ---- places rise
+
+rise-later : {at more : ℕ} (l : List Told) → at ≤ more → Rise more l → Rise at l
+rise-later [] h r = tt
+rise-later (t ∷ ts) h r = (omega (arith, r .0), r .1)
+
+rise-told : (at : ℕ) (n : Name) (c : List ℕ) (l : List Told) → Rise (at + 1) l → Rise at (told (at + 1) n c ++ l)
+unfolding told
+rise-told at n c l r =
+    cond-elim (λ (e : List Told). Rise at (e ++ l)) (happened n) (λ t. (omega arith, r)) (λ f. rise-later l (omega arith) r)
+
+rise-tell : (line : Line) (v : View) (at : ℕ) (w : List ℕ) → Rise at (tell line v at w)
+unfolding tell entry
+rise-tell line v at [] = tt
+rise-tell line v at (b ∷ bs) =
+    let t = turns line v b in
+    let o = outcome (checkOn line) (v .kept) t in
+    rise-told at (named (o .event)) (take (o .length) (v .kept)) (tell line (next v t) (at + 1) bs) (rise-tell line (next v t) (at + 1) bs)
+
+-- ---- an image that stands is told
+
+-- what is told from any state on is told behind other bytes too
+tell-behind : (line : Line) (p l : List ℕ) (v : View) (at : ℕ) (x : Told)
+    → ((u : View) → List·Memᴰ x (tell line u (at + length p) l)) → List·Memᴰ x (tell line v at (p ++ l))
+unfolding tell
+tell-behind line [] l v at x m = subst (λ (n : ℕ). List·Memᴰ x (tell line v n l)) (add-zero at) (m v)
+tell-behind line (b ∷ p) l v at x m =
+    let shift : at + suc (length p) ≡ at + 1 + length p = omega arith in
+    Memᴰ·append-right (entry line v (at + 1) (turns line v b))
+    (tell-behind line p l (next v (turns line v b)) (at + 1) x (λ u. subst (λ (n : ℕ). List·Memᴰ x (tell line u n l)) shift (m u)))
+
+right-verdict : (check : Check) (content : List ℕ) → let c = withCheck check content in
+    leastContent ≤ length c → verdict check c ≡ record { event = Frame; length = length c - checkLength check }
+unfolding verdict
+right-verdict check content least = rw (le-ltb (length (withCheck check content)) leastContent least, withCheck-right check content)
+
+frame-entry : (line : Line) (content : List ℕ) (place : ℕ) → leastContent ≤ length (checked line content)
+    → entry line (being Inside (checked line content)) place Stop ≡ telling place FRAME content ∷ []
+unfolding entry outcome told front
+frame-entry line content place least =
+    ap (λ (v : Verdict). told place (named (v .event)) (take (v .length) (checked line content))) (right-verdict (checkOn line) content least)
+    ∙ ap (told place FRAME) (front-withCheck (checkOn line) content)
+
+stands-told : (line : Line) → mayStand line ≡ true → (stream : List ℕ) (v : View) (place : ℕ) (content : List ℕ)
+    → Stands line stream place content
+    → List·Memᴰ (telling place FRAME content) (tell line v 0 stream)
+stands-told line good stream v place content s =
+    let x = telling place FRAME content in
+    let c = checked line content in
+    let end : 0 + length (s .before) + length (image c) ≡ place = omega (arith, s .ends) in
+    let told : List·Memᴰ x (entry line (being Inside c) (0 + length (s .before) + length (image c)) Stop) =
+    rw (end, frame-entry line content place (s .least)) (List·Memᴰ·head refl) in
+    let here : (u : View) → List·Memᴰ x (tell line u (0 + length (s .before)) (image c ++ s .after)) =
+    λ u. subst⁻¹ (List·Memᴰ x) (image-tells line good u c (s .after) (0 + length (s .before)) (s .most) (s .taken))
+    (Memᴰ·append-left (tell line outside (0 + length (s .before) + length (image c)) (s .after)) told) in
+    subst⁻¹ (λ (w : List ℕ). List·Memᴰ x (tell line v 0 w)) (s .split) (tell-behind line (s .before) (image c ++ s .after) v 0 x here)
+
+-- ---- demand 3
+
+pub demand-three : {line : Line} {s : Receiver} {stream : List ℕ} {all : List Told}
+    → IsFresh line s → Hearing stream s 0 all → Lists line stream all
+demand-three {line} {s} {stream} fr h =
+    let b = fresh-begins fr in
+    let e : _ ≡ tell line outside 0 stream = hearing-tells (b .good) stream (b .fit) h ∙ ap (λ (v : View). tell line v 0 stream) (b .nowhere) in
+    subst⁻¹ (Lists line stream) e
+    (record {
+      rise = rise-tell line outside 0 stream;
+      each = stands-told line (b .good) stream outside;
+      only = tell-stands line (b .good) stream [] outside tt;
+    })
+
+-- the whole list of events with their places depends on the stream only, not on the cuts
+pub cuts-free : {line : Line} {s : Receiver} {stream : List ℕ} {all others : List Told}
+    → IsFresh line s → Hearing stream s 0 all → Hearing stream s 0 others → all ≡ others
+cuts-free {stream} fr h k =
+    let b = fresh-begins fr in
+    hearing-tells (b .good) stream (b .fit) h ∙ sym (hearing-tells (b .good) stream (b .fit) k)
