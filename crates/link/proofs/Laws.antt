@@ -20,5 +20,7 @@ pub mod Cuts
 pub mod Crew
 pub mod Desk
 pub mod Demand
+pub mod Listed
+pub mod Hearing
 pub mod Unique
 pub mod Examples

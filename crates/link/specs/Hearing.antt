@@ -12,6 +12,7 @@ use Rattle.link.specs.declared.receiver.Fresh.{Fresh}
 use Rattle.link.specs.declared.receiver.Heard.{Heard}
 use Rattle.link.specs.Limits.{leastContent, mostContent}
 use Rattle.link.specs.Image.{image}
+use Rattle.link.specs.Frame.{pointContent, addressedContent}
 use Rattle.link.specs.Line.{checked, Taken}
 use Rattle.link.specs.Events.{Name, FRAME, happened}
 use Rattle.link.specs.Receiving.{fresh, made, freshMade, Said, saying, received}
@@ -74,3 +75,22 @@ pub record Lists (line : Line) (stream : List ℕ) (told : List Told) : Type 0 w
   pub rise : Rise 0 told
   pub each : (place : ℕ) (content : List ℕ) → Stands line stream place content → List·Memᴰ (telling place FRAME content) told
   pub only : (place : ℕ) (content : List ℕ) → List·Memᴰ (telling place FRAME content) told → Stands line stream place content
+
+-- ---- what a listed frame says
+
+-- the identifier, command and data of a frame on this line, as its content lists them, and the content with its check as the line's
+-- writer writes it
+pub data Says : Line → List ℕ → List ℕ → Type 0 where
+  onPoint : (identifier command : ℕ) («data» : List ℕ)
+      → Says Point (identifier ∷ command ∷ «data») (pointContent identifier command «data»)
+  onAddressed : {station : ℕ} (address identifier command : ℕ) («data» : List ℕ)
+      → Says (Addressed station) (address ∷ identifier ∷ command ∷ «data») (addressedContent address identifier command «data»)
+
+-- the image of what the content says stands in the stream, byte for byte, and ends at this place
+pub record Image (line : Line) (stream : List ℕ) (place : ℕ) (content : List ℕ) : Type 0 where
+  pub written : List ℕ
+  pub says : Says line content written
+  pub before : List ℕ
+  pub after : List ℕ
+  pub split : stream ≡ before ++ (image written ++ after)
+  pub ends : place ≡ length before + length (image written)
