@@ -31,9 +31,12 @@ being line phase count content = record { line = line; phase = phase; count = co
 
 -- ---- fresh receivers
 
--- outside a frame, with no content
+-- outside a frame, with no content so far
+abbrev pub outside : Line → List ℕ → Receiver
+outside line content = being line Outside 0 content
+
 abbrev pub fresh : Line → Receiver
-fresh line = being line Outside 0 (replicate mostContent 0)
+fresh line = outside line (replicate mostContent 0)
 
 -- a call's result in the paper's numbers
 pub record Made : Type 0 where
@@ -55,8 +58,8 @@ moved s Rest = s
 moved s Begin = being (s .line) Inside 0 (s .content)
 moved s Wait = being (s .line) Pending (s .count) (s .content)
 moved s (Keep b) = being (s .line) Inside (s .count + 1) (set (s .content) (s .count) b)
-moved s Stop = being (s .line) Outside 0 (s .content)
-moved s (Tell why) = being (s .line) Outside 0 (s .content)
+moved s Stop = outside (s .line) (s .content)
+moved s (Tell why) = outside (s .line) (s .content)
 
 -- whether there is an event
 abbrev pub ends : Turn → Bool

@@ -22,6 +22,12 @@ pub(crate) struct Verdict {
     pub(crate) length: usize,
 }
 
+// Nothing happened.
+pub(crate) const SILENT: Verdict = Verdict {
+    event: Event::None,
+    length: 0,
+};
+
 // What the stop byte behind this content tells.
 pub(crate) fn at_stop(check: Check, content: &[u8]) -> Verdict
     ensures { λ r. ⌜ r ≡ verdict check (now (content .entry)) ⌝ }

@@ -1,5 +1,7 @@
 // The receiver of either line.
 use crate::event::Event;
+use crate::event::SILENT;
+use crate::event::Verdict;
 use crate::event::at_stop;
 use crate::limits::MOST_CONTENT;
 use crate::line::Line;
@@ -13,7 +15,7 @@ use crate::turn::at_byte;
 ghost use mathlib.Core.Path.{_≡_};
 ghost use Prim.Native.Nat.{_≤_};
 ghost use Rattle.link.specs.Limits.{mostContent};
-ghost use Rattle.link.specs.Receiving.{fresh, made, freshMade, saying, heard, refusedState, received};
+ghost use Rattle.link.specs.Receiving.{fresh, outside as outsideOf, made, freshMade, saying, telling, heard, refusedState, received};
 
 // A receiver between two calls: its line, where it is, and the first `count` bytes of `content` as the content so far.
 pub struct Receiver {
@@ -69,11 +71,18 @@ impl Receiver {
     fn on(line: Line) -> Receiver
         ensures { λ r. ⌜ r ≡ fresh line ⌝ }
     {
+        Receiver::outside(line, [0u8; MOST_CONTENT])
+    }
+
+    // Outside a frame. What `content` holds is passed over from here on.
+    fn outside(line: Line, content: [u8; MOST_CONTENT]) -> Receiver
+        ensures { λ r. ⌜ r ≡ outsideOf line content ⌝ }
+    {
         Receiver {
             line,
             phase: Phase::Outside,
             count: 0,
-            content: [0u8; MOST_CONTENT],
+            content,
         }
     }
 
@@ -84,12 +93,12 @@ impl Receiver {
     {
         let line = self.line;
         if self.count > MOST_CONTENT {
-            return self.refused();
+            return Heard::refused(self);
         }
         if may_stand(line) {
             return self.hear(piece);
         }
-        self.refused()
+        Heard::refused(self)
     }
 
     // The same, of a receiver that no row of the refusal table names.
@@ -101,11 +110,16 @@ impl Receiver {
         let mut phase = self.phase;
         let mut count = self.count;
         let mut content = self.content;
-        let mut length: usize = 0;
         let mut taken: usize = 0;
-        let event = loop {
+        let verdict = loop {
             if taken == piece.len() {
-                break Event::None;
+                let receiver = Receiver {
+                    line,
+                    phase,
+                    count,
+                    content,
+                };
+                return Heard::told(receiver, SILENT, taken);
             }
             let turn = at_byte(line, phase, count, piece[taken]);
             taken += 1;
@@ -123,42 +137,38 @@ impl Receiver {
                     phase = Phase::Inside;
                     count += 1;
                 }
-                Turn::Stop => {
-                    let verdict = at_stop(check_on(line), &content[..count]);
-                    phase = Phase::Outside;
-                    count = 0;
-                    length = verdict.length;
-                    break verdict.event;
-                }
-                Turn::Tell(event) => {
-                    phase = Phase::Outside;
-                    count = 0;
-                    break event;
-                }
+                Turn::Stop => break at_stop(check_on(line), &content[..count]),
+                Turn::Tell(event) => break Verdict { event, length: 0 },
             }
         };
+        Heard::told(Receiver::outside(line, content), verdict, taken)
+    }
+}
+
+impl Heard {
+    // The receiver after this verdict, with the event's content in front of what it kept.
+    fn told(receiver: Receiver, verdict: Verdict, taken: usize) -> Heard
+        ensures { λ r. ⌜ saying r ≡ telling receiver verdict taken ⌝ }
+    {
+        let content = receiver.content;
+        let event = verdict.event;
         Heard {
             refusal: Refusal::None,
-            receiver: Receiver {
-                line,
-                phase,
-                count,
-                content,
-            },
+            receiver,
             event,
             content,
-            length,
+            length: verdict.length,
             taken,
         }
     }
 
-    fn refused(self) -> Heard
-        ensures { λ r. ⌜ saying r ≡ refusedState self ⌝ }
+    fn refused(receiver: Receiver) -> Heard
+        ensures { λ r. ⌜ saying r ≡ refusedState receiver ⌝ }
     {
-        let content = self.content;
+        let content = receiver.content;
         Heard {
             refusal: Refusal::BadState,
-            receiver: self,
+            receiver,
             event: Event::None,
             content,
             length: 0,

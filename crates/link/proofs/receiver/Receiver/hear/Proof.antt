@@ -1,32 +1,42 @@
 -- `Receiver::hear` meets its contract: what is left of the piece gives what the whole piece gives.
 -- Assumes nothing.
 use mathlib.Core.Path.{_≡_, refl, sym, ap, subst, _∙_}
+use mathlib.Core.Logic.{⊎-elim}
 use Prim.Native.Nat.{ℕ, _+_, _-_, _≤_, _<_, zero-le}
-use lib.ListN.{drop, getD, length as size, length-set, length-map}
-use Rattle.link.specs.declared.event.Event.the-variants.{None}
-use Rattle.link.specs.Receiving.{being, moved, outcome, telling, heard}
-use Rattle.link.proofs.Laws.Turning.{Room, turn-room}
-use lib.Seq.{length-take-le}
 use native.Mathlib.Omega.{arith}
 use borrow.Author.Needs.{needs}
+use lib.ListN.{length, take, drop, length-set, length-map}
+use lib.Seq.{length-take-le}
+use Rattle.link.specs.declared.frame.Check.{Check}
+use Rattle.link.specs.declared.event.Verdict.{Verdict}
+use Rattle.link.specs.declared.receiver.Receiver.{Receiver}
 use Rattle.link.specs.Limits.{mostContent}
+use Rattle.link.specs.Turning.{verdict}
+use Rattle.link.specs.Receiving.{being, outside, moved, outcome, telling, heard}
+use Rattle.link.proofs.Laws.Turning.{Room, turn-room}
 use Rattle.link.proofs.Laws.Receiving.{runs-out, goes-on, breaks-off}
 use Rattle.link.proofs.receiver.Receiver.hear.Statement.{statement}
 use Rattle.link.proofs.receiver.Receiver.hear.Tie as tie
 
 abbrev Inv-loop : tie.InvT-loop
-Inv-loop piece line phase₀ count₀ content₀ length₀ taken₀ phase count content length taken =
-    (taken ≤ size piece) × (count ≤ mostContent) × (size content ≡ mostContent) × (length ≡ 0)
+Inv-loop piece line phase₀ count₀ content₀ taken₀ phase count content taken =
+    (taken ≤ length piece) × (count ≤ mostContent) × (length content ≡ mostContent)
     × (heard taken (being line phase count content) (drop taken piece) ≡ heard 0 (being line phase₀ count₀ content₀) piece)
 
 abbrev μ-loop : tie.MeasureT-loop
-μ-loop piece line phase₀ count₀ content₀ length₀ taken₀ phase count content length taken = size piece - taken
+μ-loop piece line phase₀ count₀ content₀ taken₀ phase count content taken = length piece - taken
 
 loop-holds : tie.Need-loop-holds Inv-loop μ-loop
 unfolding heard
 loop-holds c =
     let sized = simp length-map at (c .before .before .good .0 .1 .1 .1 .1 .1 .0 .1 .0 .1) in
-    (zero-le, c .before .before .pre, sized, refl, refl)
+    (zero-le, c .before .before .pre, sized, refl)
+
+told-requires : tie.Need-told-requires Inv-loop μ-loop
+told-requires c κs = search needs
+
+returns : tie.Need-returns Inv-loop μ-loop
+returns c = c .told .ensures ∙ runs-out _ _ _ (omega arith) ∙ c .before .before .loop .inv .3
 
 shared-slice-read-at-byte : tie.Need-shared-slice-read-at-byte Inv-loop μ-loop
 shared-slice-read-at-byte c = omega arith
@@ -48,7 +58,7 @@ unfolding moved
 loop-again c =
     let d = c .before .before in
     let inv = d .before .before .before .loop .inv in
-    (omega arith, inv .1, inv .2, inv .3, goes-on _ _ _ (omega arith) (sym (c .enum-told .given .1) ∙ d .at-byte .ensures) refl ∙ inv .4)
+    (omega arith, inv .1, inv .2, goes-on _ _ _ (omega arith) (sym (c .enum-told .given .1) ∙ d .at-byte .ensures) refl ∙ inv .3)
 
 enum-told-2 : tie.Need-enum-told-2 Inv-loop μ-loop
 enum-told-2 c = search needs
@@ -61,7 +71,7 @@ unfolding moved
 loop-again-2 c =
     let d = c .before .before in
     let inv = d .before .before .before .loop .inv in
-    (omega arith, zero-le, inv .2, inv .3, goes-on _ _ _ (omega arith) (sym (c .enum-told2 .given .1) ∙ d .at-byte .ensures) refl ∙ inv .4)
+    (omega arith, zero-le, inv .2, goes-on _ _ _ (omega arith) (sym (c .enum-told2 .given .1) ∙ d .at-byte .ensures) refl ∙ inv .3)
 
 enum-told-3 : tie.Need-enum-told-3 Inv-loop μ-loop
 enum-told-3 c = search needs
@@ -74,7 +84,7 @@ unfolding moved
 loop-again-3 c =
     let d = c .before .before in
     let inv = d .before .before .before .loop .inv in
-    (omega arith, inv .1, inv .2, inv .3, goes-on _ _ _ (omega arith) (sym (c .enum-told3 .given .1) ∙ d .at-byte .ensures) refl ∙ inv .4)
+    (omega arith, inv .1, inv .2, goes-on _ _ _ (omega arith) (sym (c .enum-told3 .given .1) ∙ d .at-byte .ensures) refl ∙ inv .3)
 
 enum-known-turn : tie.Need-enum-known-turn Inv-loop μ-loop
 enum-known-turn c = search needs
@@ -103,8 +113,7 @@ loop-again-4 c =
       omega arith,
       omega (arith, room c),
       simp length-set (inv .2),
-      inv .3,
-      goes-on _ _ _ (omega arith) (sym (c .before .turn .given .1) ∙ d .at-byte .ensures) refl ∙ inv .4,
+      goes-on _ _ _ (omega arith) (sym (c .before .turn .given .1) ∙ d .at-byte .ensures) refl ∙ inv .3,
     )
 
 enum-told-4 : tie.Need-enum-told-4 Inv-loop μ-loop
@@ -125,26 +134,29 @@ at-stop-requires c κs = search needs
 enum-known-turn-2 : tie.Need-enum-known-turn-2 Inv-loop μ-loop
 enum-known-turn-2 c = search needs
 
-returns : tie.Need-returns Inv-loop μ-loop
-returns c =
-    let l = c .before .loop in
-    let s = being (c .before .before .before .before .args .self .line) (l .phase) (l .count) (l .content) in
-    ap (λ (n : ℕ). telling s (record { event = None; length = n }) (l .taken)) (l .inv .3) ∙ runs-out _ _ s (omega arith) ∙ l .inv .4
+outside-requires : tie.Need-outside-requires Inv-loop μ-loop
+outside-requires c κs = search needs
 
+told-requires-2 : tie.Need-told-requires-2 Inv-loop μ-loop
+told-requires-2 c κs = search needs
+
+-- the two ways out of the loop: the frame ended, or was given up
 returns-2 : tie.Need-returns-2 Inv-loop μ-loop
 unfolding moved outcome
 returns-2 c =
-    let d = c .before .before .before .before .before in
-    let inv = d .before .before .before .loop .inv in
-    rw (c .at-stop .ensures, c .before .before .check-on .ensures)
-    (breaks-off _ _ _ (omega arith) (sym (c .before .before .before .enum-told4 .given .1) ∙ d .at-byte .ensures) refl ∙ inv .4)
-
-returns-3 : tie.Need-returns-3 Inv-loop μ-loop
-unfolding moved outcome
-returns-3 c =
-    let d = c .before .before .before in
-    let inv = d .before .before .before .loop .inv in
-    rw (inv .3) (breaks-off _ _ _ (omega arith) (sym (c .before .turn2 .given .1) ∙ d .at-byte .ensures) refl ∙ inv .4)
+    let m = c .before .before in
+    let d = m .before in
+    let l = d .before .before .before in
+    let on = telling (outside (l .before .before .before .args .self .line) (l .loop .content)) in
+    let n = l .loop .taken + 1 in
+    c .told2 .ensures
+    ∙ ap (λ (r : Receiver). telling r (m .match .verdict) n) (c .before .outside .ensures)
+    ∙ ⊎-elim
+    (λ w. ap (λ (v : Verdict). on v n) (w .5 ∙ w .4 .ensures ∙ ap (λ (k : Check). verdict k (take (l .loop .count) (l .loop .content))) (w .2 .ensures))
+    ∙ breaks-off _ _ _ (omega arith) (sym (w .1 .given .1) ∙ d .at-byte .ensures) refl)
+    (λ w. ap (λ (v : Verdict). on v n) (w .3) ∙ breaks-off _ _ _ (omega arith) (sym (w .1 .given .1) ∙ d .at-byte .ensures) refl)
+    (m .match .came)
+    ∙ l .loop .inv .3
 
 pub hear-spec : {M : Type 1} → statement M
 hear-spec =
@@ -153,6 +165,8 @@ hear-spec =
     Inv-loop
     μ-loop
     loop-holds
+    told-requires
+    returns
     shared-slice-read-at-byte
     at-byte-requires
     add-taken
@@ -176,6 +190,6 @@ hear-spec =
     slice-aggregate-at-stop
     at-stop-requires
     enum-known-turn-2
-    returns
-    returns-2
-    returns-3)
+    outside-requires
+    told-requires-2
+    returns-2)
