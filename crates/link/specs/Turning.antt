@@ -1,12 +1,11 @@
 -- What one byte means to a receiver, rule by rule, and what the byte that ends a frame tells.
 -- 01, How the receiver moves; the numbers are those of its rules. Assumes nothing.
 use Prim.Native.Nat.{ℕ, _-_}
-use mathlib.Core.Bool.{Bool, cond}
+use mathlib.Core.Bool.{cond}
 use mathlib.Core.List.{List}
 use lib.Dec.{eqb, ltb, leb}
 use lib.ListN.{length}
 use Rattle.link.specs.declared.frame.Check.{Check}
-use Rattle.link.specs.declared.event.Event.{Event}
 use Rattle.link.specs.declared.event.Event.the-variants.{Frame, Short, Long, Pair, Addr}
 use Rattle.link.specs.declared.event.Event.the-variants as event
 use Rattle.link.specs.declared.event.Verdict.{Verdict}

@@ -2,28 +2,28 @@
 -- no event before.
 -- Assumes nothing.
 use mathlib.Core.Path.{_≡_, refl, sym, ap, ap₂, _∙_}
-use mathlib.Core.Bool.{Bool, true, false, true≢false}
+use mathlib.Core.Bool.{true, false, true≢false}
 use mathlib.Core.List.{List, [], _∷_, _++_, append-assoc, append-nil}
-use Prim.Native.Nat.{ℕ, zero, suc, _+_, _-_, _≤_, _<_}
+use Prim.Native.Nat.{ℕ, _+_, _-_, _≤_, _<_}
 use native.Mathlib.Nat.{add-zero}
 use native.Mathlib.Omega.{arith}
 use lib.Dec.{lit≤}
 use lib.ListN.{length, length-append}
 use Rattle.link.specs.declared.line.Line.{Line}
 use Rattle.link.specs.declared.line.Line.the-variants.{Point, Addressed}
-use Rattle.link.specs.declared.turn.Phase.the-variants.{Inside, Pending}
-use Rattle.link.specs.declared.turn.Turn.the-variants.{Begin, Wait, Keep, Stop}
+use Rattle.link.specs.declared.turn.Phase.the-variants.{Inside}
+use Rattle.link.specs.declared.turn.Turn.the-variants.{Stop}
 use Rattle.link.specs.Limits.{mostContent}
 use Rattle.link.specs.Stuffing.{special, stuffed, stuffing}
 use Rattle.link.specs.Image.{start, stop, image}
 use Rattle.link.specs.Line.{mayStand, Taken}
 use Rattle.link.specs.Turning.{inside, within, turn}
 use Rattle.link.specs.Receiving.{outcome}
-use Rattle.link.specs.Hearing.{Told, told}
+use Rattle.link.specs.Hearing.{told}
 use Rattle.link.proofs.Laws.Address.{takes-plain}
 use Rattle.link.proofs.Laws.Stuffing.{by-stuffed}
 use Rattle.link.proofs.Laws.Turning.{Whole, Later, keep-turn, wait-turn, pair-turn}
-use Rattle.link.proofs.Laws.View.{View, being, outside, turns, next, entry}
+use Rattle.link.proofs.Laws.View.{View, being, outside, next, entry}
 use Rattle.link.proofs.Laws.Cuts.{tell}
 
 -- ---- what a content byte may be behind those before it

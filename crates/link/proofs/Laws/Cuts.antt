@@ -1,12 +1,12 @@
 -- What a hearing tells depends on the stream alone: it is what the bytes tell one by one, however the stream is cut into calls.
 -- Assumes nothing.
-use mathlib.Core.Path.{_≡_, refl, sym, ap, ap₂, subst⁻¹, _∙_}
+use mathlib.Core.Path.{_≡_, sym, ap, ap₂, subst⁻¹, _∙_}
 use mathlib.Core.Bool.{true, false}
-use mathlib.Core.List.{List, [], _∷_, _++_, append-assoc}
+use mathlib.Core.List.{List, [], _∷_, _++_}
 use Prim.Native.Nat.{ℕ, _+_}
 use native.Mathlib.Nat.{add-zero}
 use native.Mathlib.Omega.{arith}
-use lib.ListN.{length, take, drop, drop-of-length-le}
+use lib.ListN.{take, drop, drop-of-length-le}
 use lib.Seq.{drop-drop}
 use Rattle.link.specs.declared.line.Line.{Line}
 use Rattle.link.specs.declared.turn.Turn.{Turn}
@@ -17,7 +17,7 @@ use Rattle.link.specs.Turning.{turn}
 use Rattle.link.specs.Receiving.{Said, saying, moved, ends, outcome, telling, heard, received}
 use Rattle.link.specs.Hearing.{Told, told, tells, Hearing, over, call}
 use Rattle.link.proofs.Laws.Choice.{cond-elim}
-use Rattle.link.proofs.Laws.Turning.{Room, turn-room}
+use Rattle.link.proofs.Laws.Turning.{turn-room}
 use Rattle.link.proofs.Laws.Receiving.{hears}
 use Rattle.link.proofs.Laws.View.{View, seen, turns, next, entry, Fit, turns-seen, fit-moved, seen-moved, entry-seen, quiet}
 

@@ -1,13 +1,13 @@
 -- Demand 3: the FRAMEs that a hearing tells are exactly the frames whose image stands in the stream. And what else people will ask: that
 -- the cuts do not matter, and that there is a hearing of every stream.
 -- Assumes nothing.
-use mathlib.Core.Path.{_≡_, refl, sym, ap, ap₂, subst, subst⁻¹, _∙_}
+use mathlib.Core.Path.{_≡_, refl, sym, ap, subst, subst⁻¹, _∙_}
 use mathlib.Core.Bool.{Bool, true, false, cond}
-use mathlib.Core.List.{List, [], _∷_, _++_, append-assoc, List·Memᴰ, List·Memᴰ·head, Memᴰ·append-left, Memᴰ·append-right}
-use Prim.Native.Nat.{ℕ, zero, suc, _+_, _-_, _≤_, _<_}
-use native.Mathlib.Nat.{add-zero, zero-add}
+use mathlib.Core.List.{List, [], _∷_, _++_, List·Memᴰ, List·Memᴰ·head, Memᴰ·append-left, Memᴰ·append-right}
+use Prim.Native.Nat.{ℕ, suc, _+_, _-_, _≤_}
+use native.Mathlib.Nat.{add-zero}
 use native.Mathlib.Omega.{arith}
-use lib.ListN.{length, take, drop}
+use lib.ListN.{length, take}
 use borrow.Author.Tests.{le-ltb}
 use Rattle.link.specs.declared.refusal.Refusal.the-variants.{BadAddress}
 use Rattle.link.specs.declared.frame.Check.{Check}
@@ -21,12 +21,12 @@ use Rattle.link.specs.declared.receiver.Receiver.{Receiver}
 use Rattle.link.specs.Limits.{leastContent}
 use Rattle.link.specs.Address.{isStation}
 use Rattle.link.specs.Image.{image}
-use Rattle.link.specs.Frame.{checkLength, withCheck, front, isRight}
-use Rattle.link.specs.Line.{checkOn, checked, mayStand, Taken}
+use Rattle.link.specs.Frame.{checkLength, withCheck, front}
+use Rattle.link.specs.Line.{checkOn, checked, mayStand}
 use Rattle.link.specs.Refusals.{number}
 use Rattle.link.specs.Events.{Name, FRAME, happened, named}
 use Rattle.link.specs.Turning.{verdict}
-use Rattle.link.specs.Receiving.{fresh, Made, made, freshMade, outcome}
+use Rattle.link.specs.Receiving.{fresh, Made, freshMade, outcome}
 use Rattle.link.specs.Hearing.{Told, telling, told, IsFresh, point, addressed, Hearing, Stands, Rise, Lists}
 use Rattle.link.proofs.Laws.Choice.{cond-elim}
 use Rattle.link.proofs.Laws.Right.{front-withCheck, withCheck-right}

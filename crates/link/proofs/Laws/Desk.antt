@@ -5,21 +5,19 @@ use mathlib.Core.Path.{_≡_, refl, sym, ap, ap₂, subst, _∙_}
 use mathlib.Core.Bool.{true, false, false≢true}
 use mathlib.Core.List.{List, [], _∷_, _++_, append-assoc, append-nil, List·Memᴰ, List·Memᴰ·not-nil, List·Memᴰ·append-cases, List·Memᴰ·eq-of-singleton}
 use mathlib.Core.Logic.{⊎-elim}
-use Prim.Native.Nat.{ℕ, zero, suc, _+_, _-_, _≤_, _<_, zero-le}
+use Prim.Native.Nat.{ℕ, zero, suc, _+_, _-_, _≤_, zero-le}
 use native.Mathlib.Omega.{arith}
 use lib.Dec.{ltb}
 use lib.ListN.{length, take, length-append}
 use borrow.Author.Tests.{ltb-false}
 use Rattle.link.specs.declared.frame.Check.{Check}
 use Rattle.link.specs.declared.event.Event.{Event}
-use Rattle.link.specs.declared.event.Event.the-variants.{None, Frame, Short, Long, Pair, Addr}
 use Rattle.link.specs.declared.event.Verdict.{Verdict}
 use Rattle.link.specs.declared.line.Line.{Line}
 use Rattle.link.specs.declared.line.Line.the-variants.{Point, Addressed}
 use Rattle.link.specs.declared.turn.Phase.{Phase}
 use Rattle.link.specs.declared.turn.Phase.the-variants.{Outside, Inside, Pending}
 use Rattle.link.specs.declared.turn.Turn.{Turn}
-use Rattle.link.specs.declared.turn.Turn.the-variants.{Rest, Begin, Wait, Keep, Stop, Tell}
 use Rattle.link.specs.Limits.{leastContent, mostContent}
 use Rattle.link.specs.Stuffing.{special, stuffed, stuffing}
 use Rattle.link.specs.Image.{start, stop, image}
@@ -34,7 +32,7 @@ use Rattle.link.proofs.Laws.Address.{takes-plain}
 use Rattle.link.proofs.Laws.Stuffing.{stuffed-other, stuffed-special}
 use Rattle.link.proofs.Laws.Right.{right-withCheck}
 use Rattle.link.proofs.Laws.Turning.{Whole, Later, Why, begins, rests, stops, waits, keeps, pairs, tells, fault, turn-why}
-use Rattle.link.proofs.Laws.View.{View, being, outside, turns, next, entry}
+use Rattle.link.proofs.Laws.View.{View, being, turns, next, entry}
 use Rattle.link.proofs.Laws.Cuts.{tell}
 
 -- ---- the bytes since the frame's start

@@ -2,7 +2,7 @@
 -- where it tells nothing, and an empty piece changes nothing.
 -- Assumes nothing.
 use mathlib.Core.Path.{_≡_, refl, sym, ap, _∙_}
-use mathlib.Core.Bool.{Bool, true, false, cond, true≢false, false≢true}
+use mathlib.Core.Bool.{true, false, true≢false, false≢true}
 use mathlib.Core.List.{List, [], _∷_, _++_, append-nil}
 use Prim.Native.Nat.{ℕ, zero, suc, _+_, _-_, _≤_, _<_}
 use native.Mathlib.Nat.{add-zero}
@@ -13,12 +13,10 @@ use lib.ListN.{length, take, drop, length-drop}
 use Rattle.link.specs.declared.refusal.Refusal.the-variants as refusal
 use Rattle.link.specs.declared.frame.Check.{Check}
 use Rattle.link.specs.declared.event.Event.{Event}
-use Rattle.link.specs.declared.event.Event.the-variants.{None}
 use Rattle.link.specs.declared.event.Verdict.{Verdict}
 use Rattle.link.specs.declared.line.Line.{Line}
 use Rattle.link.specs.declared.turn.Phase.{Phase}
 use Rattle.link.specs.declared.turn.Turn.{Turn}
-use Rattle.link.specs.declared.turn.Turn.the-variants.{Rest, Begin, Wait, Keep, Stop, Tell}
 use Rattle.link.specs.declared.receiver.Receiver.{Receiver}
 use Rattle.link.specs.declared.receiver.Heard.{Heard}
 use Rattle.link.specs.Limits.{leastContent}
@@ -26,7 +24,7 @@ use Rattle.link.specs.Frame.{isRight}
 use Rattle.link.specs.Line.{checkOn, mayStand}
 use Rattle.link.specs.Events.{Name, NONE, FRAME, CHECK, SHORT, LONG, PAIR, ADDR, named, happened}
 use Rattle.link.specs.Turning.{turn, verdict}
-use Rattle.link.specs.Receiving.{Said, saying, moved, ends, outcome, telling, silent, heard, received}
+use Rattle.link.specs.Receiving.{Said, saying, moved, ends, outcome, silent, heard, received}
 use Rattle.link.specs.Hearing.{Told, IsFresh, Hearing, over, call}
 use Rattle.link.proofs.Laws.Choice.{cond-elim}
 use Rattle.link.proofs.Laws.Turning.{Why, begins, rests, stops, waits, keeps, pairs, tells, turn-why, fault}

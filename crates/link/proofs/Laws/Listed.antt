@@ -12,7 +12,7 @@ use Rattle.link.specs.declared.line.Line.{Line}
 use Rattle.link.specs.declared.line.Line.the-variants.{Point, Addressed}
 use Rattle.link.specs.declared.refusal.Counted.{Counted}
 use Rattle.link.specs.declared.receiver.Receiver.{Receiver}
-use Rattle.link.specs.Limits.{leastContent, mostContent, mostData}
+use Rattle.link.specs.Limits.{leastContent, mostData}
 use Rattle.link.specs.Address.{isNever, takes}
 use Rattle.link.specs.Image.{image}
 use Rattle.link.specs.Frame.{checkLength, withCheck, pointContent, addressedContent}

@@ -1,6 +1,6 @@
 -- Laws of one call of a receiver: its refusals, and that what is left of the piece gives what the whole piece gives.
 -- Assumes nothing.
-use mathlib.Core.Path.{_≡_, sym, ap}
+use mathlib.Core.Path.{_≡_}
 use mathlib.Core.Bool.{true, false, or-true}
 use mathlib.Core.List.{List}
 use Prim.Native.Nat.{ℕ, _+_, _≤_, _<_}

@@ -1,12 +1,12 @@
 -- Laws of a right check: a content whose check is right is what stands before it, with its check.
 -- Assumes nothing.
 use mathlib.Core.Path.{_≡_, refl, sym, ap, _∙_}
-use mathlib.Core.Bool.{Bool, true, false, _&&_, and-true, and-eq-true-iff, false≢true}
+use mathlib.Core.Bool.{true, false, _&&_, and-true, and-eq-true-iff, false≢true}
 use mathlib.Core.List.{List, [], _∷_, _++_}
-use Prim.Native.Nat.{ℕ, _+_, _-_, _/_, _%_, _≤_}
+use Prim.Native.Nat.{ℕ, _+_, _-_, _/_, _%_}
 use native.Mathlib.Omega.{arith}
 use lib.Dec.{eqb}
-use lib.ListN.{length, take, drop, getD, length-append, take-append-drop, drop-of-length-le}
+use lib.ListN.{length, take, drop, getD, take-append-drop, drop-of-length-le}
 use lib.Seq.{take-at, drop-at}
 use borrow.Author.Tests.{eqb-true, eq-eqb, ne-eqb}
 use Rattle.link.specs.declared.frame.Check.{Check}

@@ -1,15 +1,12 @@
 -- Laws of a receiver's turn: why it is what it is, case by case, and which turn each wire byte of a content byte is.
 -- Assumes nothing.
-use mathlib.Core.Path.{_≡_, refl, sym, ap, _∙_}
-use mathlib.Core.Bool.{Bool, true, false, cond, true≢false, false≢true, or-eq-true-iff}
-use mathlib.Core.List.{List, [], _∷_}
+use mathlib.Core.Path.{_≡_, refl, _∙_}
+use mathlib.Core.Bool.{Bool, true, false, true≢false}
 use Prim.Native.Nat.{ℕ, zero, suc, _-_, _≤_, _<_}
 use native.Mathlib.Omega.{arith}
 use lib.Dec.{eqb, ltb, leb, eqb·suc-zero}
-use lib.ListN.{length}
 use borrow.Author.Tests.{eqb-true, leb-true, ltb-true, lt-ltb, le-leb, ne-eqb}
 use Rattle.link.specs.declared.event.Event.{Event}
-use Rattle.link.specs.declared.event.Event.the-variants.{Long, Pair, Addr}
 use Rattle.link.specs.declared.line.Line.{Line}
 use Rattle.link.specs.declared.line.Line.the-variants.{Point, Addressed}
 use Rattle.link.specs.declared.turn.Phase.{Phase}

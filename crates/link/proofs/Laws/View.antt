@@ -2,12 +2,12 @@
 -- the record.
 -- Assumes nothing.
 use mathlib.Core.Path.{_≡_, refl, sym, ap, ap₂, _∙_}
-use mathlib.Core.Bool.{Bool, true, false, true≢false}
+use mathlib.Core.Bool.{true, false, true≢false}
 use mathlib.Core.List.{List, [], _∷_, _++_}
-use Prim.Native.Nat.{ℕ, _+_, _≤_, _<_, zero-le}
+use Prim.Native.Nat.{ℕ, _+_, _≤_, zero-le}
 use native.Mathlib.Numerals.{add-one}
 use native.Mathlib.Omega.{arith}
-use lib.ListN.{length, take, set, length-set, length-replicate}
+use lib.ListN.{length, take, length-set, length-replicate}
 use lib.Dec.{ltb}
 use lib.Seq.{length-take-le, take-take, take-suc-set}
 use Rattle.link.specs.declared.frame.Check.{Check}
@@ -22,7 +22,7 @@ use Rattle.link.specs.Limits.{leastContent, mostContent}
 use Rattle.link.specs.Line.{checkOn}
 use Rattle.link.specs.Events.{named}
 use Rattle.link.specs.Turning.{turn, verdict}
-use Rattle.link.specs.Receiving.{fresh, moved, ends, silent, outcome}
+use Rattle.link.specs.Receiving.{fresh, moved, ends, outcome}
 use Rattle.link.specs.Hearing.{Told, told}
 use Rattle.link.proofs.Laws.Choice.{cond-elim}
 use Rattle.link.proofs.Laws.Turning.{Room}

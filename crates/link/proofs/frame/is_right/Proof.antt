@@ -1,11 +1,9 @@
 -- `frame::is_right` meets its contract: byte for byte, what came is the check.
 -- Assumes nothing.
 use Rattle.link.proofs.Laws.Right.{low-wrong, low-right, right-sum}
-use mathlib.Core.Path.{sym, ap, _∙_}
+use mathlib.Core.Path.{sym, ap}
 use Prim.Native.Nat.{_+_}
 use native.Mathlib.Omega.{arith}
-use borrow.Author.Tests.{eq-eqb, ne-eqb}
-use lib.ListN.{length, take}
 use lib.Seq.{length-take-le}
 use Rattle.link.specs.Frame.{checkLength}
 use borrow.Author.Needs.{needs}

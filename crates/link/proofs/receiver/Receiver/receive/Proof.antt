@@ -1,7 +1,6 @@
 -- `Receiver::receive` meets its contract: its tests are row 4 of the refusal table.
 -- Assumes nothing.
 use mathlib.Core.Path.{sym, _∙_}
-use native.Mathlib.Omega.{arith}
 use Rattle.link.proofs.Laws.Receiving.{refuses-count, refuses-station, hears}
 use borrow.Author.Needs.{needs}
 use Rattle.link.proofs.receiver.Receiver.receive.Statement.{statement}
