@@ -11,7 +11,7 @@ use Rattle.link.specs.declared.line.Line.the-variants.{Point, Addressed}
 use Rattle.link.specs.Frame.{withCheck, pointContent, addressedContent}
 use Rattle.link.specs.Events.{Name, FRAME, CHECK, SHORT, LONG, PAIR, ADDR}
 use Rattle.link.specs.Receiving.{fresh, received}
-use Rattle.link.specs.Hearing.{telling, tells}
+use Rattle.link.specs.Hearing.{toldAt, tells}
 use lib.ListN.{replicate}
 
 -- an example: what is done, and what the paper prints for it
@@ -26,7 +26,7 @@ abbrev pub Holds : Example → Type 0
 Holds (pointImage identifier command «data» printed) = image (pointContent identifier command «data») ≡ printed
 Holds (addressedImage address identifier command «data» printed) = image (addressedContent address identifier command «data») ≡ printed
 Holds (stuffs content printed) = stuffing content ≡ printed
-Holds (hears line stream place event content) = tells 0 (received (fresh line) stream) ≡ telling place event content ∷ []
+Holds (hears line stream place event content) = tells 0 (received (fresh line) stream) ≡ toldAt place event content ∷ []
 
 abbrev pub EachHolds : List Example → Type 0
 EachHolds [] = Unit {0}

@@ -17,4 +17,5 @@ pub mod Events
 pub mod Turning
 pub mod Receiving
 pub mod Hearing
+pub mod Listing
 pub mod Examples

@@ -25,7 +25,8 @@ abbrev pub mayStand : Line → Bool
 mayStand Point = true
 mayStand (Addressed station) = isStation station
 
--- on the addressed line content begins with an address, and this station takes it; the point line has no address
+-- on the addressed line a content begins with an address, and this station takes it; the point line, and what has no byte yet, has no
+-- address
 abbrev pub Taken : Line → List ℕ → Type 0
 Taken Point content = Unit {0}
 Taken (Addressed station) [] = Unit {0}

@@ -11,8 +11,8 @@ use Rattle.link.specs.declared.event.Event.the-variants as event
 use Rattle.link.specs.declared.event.Verdict.{Verdict}
 use Rattle.link.specs.declared.line.Line.{Line}
 use Rattle.link.specs.declared.line.Line.the-variants.{Point, Addressed}
-use Rattle.link.specs.declared.turn.Phase.{Phase}
-use Rattle.link.specs.declared.turn.Phase.the-variants.{Outside, Inside, Pending}
+use Rattle.link.specs.declared.phase.Phase.{Phase}
+use Rattle.link.specs.declared.phase.Phase.the-variants.{Outside, Inside, Pending}
 use Rattle.link.specs.declared.turn.Turn.{Turn}
 use Rattle.link.specs.declared.turn.Turn.the-variants.{Rest, Begin, Wait, Keep, Stop, Tell}
 use Rattle.link.specs.Limits.{mostContent, leastContent}
@@ -33,13 +33,13 @@ unfoldable pub partner : ℕ → ℕ → Turn
 partner count p = cond (leb p 0x02) (kept count (0xFF - p)) (Tell Pair)
 
 -- 2. on the addressed line the first byte after FD is the raw address; if this station does not take it, FF included: ADDR, at that byte
-unfoldable pub content : Line → ℕ → ℕ → Turn
-content Point count b = plain count b
-content (Addressed station) count b = cond (eqb count 0) (cond (takes station b) (kept count b) (Tell Addr)) (plain count b)
+unfoldable pub contentByte : Line → ℕ → ℕ → Turn
+contentByte Point count b = plain count b
+contentByte (Addressed station) count b = cond (eqb count 0) (cond (takes station b) (kept count b) (Tell Addr)) (plain count b)
 
 -- 1. FE ends the frame
 unfoldable pub inside : Line → ℕ → ℕ → Turn
-inside line count b = cond (eqb b stop) Stop (content line count b)
+inside line count b = cond (eqb b stop) Stop (contentByte line count b)
 
 -- outside a frame everything is ignored; behind an FF a byte is its partner
 unfoldable pub within : Line → Phase → ℕ → ℕ → Turn

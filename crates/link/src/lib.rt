@@ -1,4 +1,4 @@
-// Frames, check values and stuffing of the two serial lines of ProX card readers: the writing half.
+// Frames, check values and stuffing of the two serial lines of ProX card readers: writers, and the receiver of both.
 pub mod event;
 pub mod fcs;
 mod frame;
@@ -6,10 +6,11 @@ pub mod image;
 mod laying;
 mod limits;
 pub mod line;
+pub mod phase;
 pub mod receiver;
 pub mod refusal;
 mod stuffing;
 pub mod sum;
 mod table;
-pub mod turn;
+mod turn;
 pub mod writer;

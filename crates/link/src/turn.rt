@@ -5,17 +5,11 @@ use crate::image::STOP;
 use crate::limits::MOST_CONTENT;
 use crate::line::Line;
 use crate::line::takes;
+use crate::phase::Phase;
 use crate::stuffing::ESCAPE;
 use crate::stuffing::LAST_PARTNER;
 ghost use mathlib.Core.Path.{_≡_};
 ghost use Rattle.link.specs.Turning.{turn, inside as insideOf, plain as plainOf, partner as partnerOf, kept as keptOf};
-
-// Where a receiver is: outside a frame, inside one, or inside one behind an FF that waits for its partner.
-pub enum Phase {
-    Outside,
-    Inside,
-    Pending,
-}
 
 // What the receiver does at a byte: nothing, begin a frame, wait for the partner of an FF, keep a content byte, end the frame, or give
 // the frame up and tell why.

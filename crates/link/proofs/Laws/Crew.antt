@@ -11,7 +11,7 @@ use lib.Dec.{lit≤}
 use lib.ListN.{length, length-append}
 use Rattle.link.specs.declared.line.Line.{Line}
 use Rattle.link.specs.declared.line.Line.the-variants.{Point, Addressed}
-use Rattle.link.specs.declared.turn.Phase.the-variants.{Inside}
+use Rattle.link.specs.declared.phase.Phase.the-variants.{Inside}
 use Rattle.link.specs.declared.turn.Turn.the-variants.{Stop}
 use Rattle.link.specs.Limits.{mostContent}
 use Rattle.link.specs.Stuffing.{special, stuffed, stuffing}
@@ -19,7 +19,7 @@ use Rattle.link.specs.Image.{start, stop, image}
 use Rattle.link.specs.Line.{mayStand, Taken}
 use Rattle.link.specs.Turning.{inside, within, turn}
 use Rattle.link.specs.Receiving.{outcome}
-use Rattle.link.specs.Hearing.{told}
+use Rattle.link.specs.Hearing.{note}
 use Rattle.link.proofs.Laws.Address.{takes-plain}
 use Rattle.link.proofs.Laws.Stuffing.{by-stuffed}
 use Rattle.link.proofs.Laws.Turning.{Whole, Later, keep-turn, wait-turn, pair-turn}
@@ -44,12 +44,12 @@ later (Addressed station) good (a ∷ k) b c taken changed = tt
 module _ (line : Line) (at : ℕ) (k rest : List ℕ) (room : length k < mostContent) where
   keep-tells : (b : ℕ) → special b ≡ false → Whole line (length k) b
       → tell line (being Inside k) at (b ∷ rest) ≡ tell line (being Inside (k ++ (b ∷ []))) (at + 1) rest
-  unfolding tell entry next outcome told
+  unfolding tell entry next outcome note
   keep-tells b plain w = rw (keep-turn line (length k) b plain w room)
 
   pair-tells : (p : ℕ) → p ≤ 0x02 → Later line (length k)
       → tell line (being Inside k) at (0xFF ∷ p ∷ rest) ≡ tell line (being Inside (k ++ ((0xFF - p) ∷ []))) (at + 2) rest
-  unfolding tell entry next outcome told
+  unfolding tell entry next outcome note
   pair-tells p known l =
       let two : at + 1 + 1 ≡ at + 2 = omega arith in
       rw (wait-turn line (length k) l, pair-turn line (length k) p known room, two)
@@ -81,7 +81,7 @@ module _ (line : Line) (good : mayStand line ≡ true) where
       ∙ ap₂ (λ (l : List ℕ) (n : ℕ). tell line (being Inside l) n rest) (append-assoc k (b ∷ []) bs) wire
 
   start-tells : (v : View) (rest : List ℕ) (at : ℕ) → tell line v at (start ∷ rest) ≡ tell line (being Inside []) (at + 1) rest
-  unfolding tell entry next outcome told turn
+  unfolding tell entry next outcome note turn
   start-tells v rest at = refl
 
   stop-tells : (c rest : List ℕ) (at : ℕ)

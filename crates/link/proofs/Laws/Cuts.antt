@@ -15,7 +15,7 @@ use Rattle.link.specs.declared.receiver.Heard.{Heard}
 use Rattle.link.specs.Line.{checkOn, mayStand}
 use Rattle.link.specs.Turning.{turn}
 use Rattle.link.specs.Receiving.{Said, saying, moved, ends, outcome, telling, heard, received}
-use Rattle.link.specs.Hearing.{Told, told, tells, Hearing, over, call}
+use Rattle.link.specs.Hearing.{Told, note, tells, Hearing, over, call}
 use Rattle.link.proofs.Laws.Choice.{cond-elim}
 use Rattle.link.proofs.Laws.Turning.{turn-room}
 use Rattle.link.proofs.Laws.Receiving.{hears}
@@ -78,7 +78,7 @@ module _ (line : Line) (stream : List ℕ) (before : ℕ) where
 
   heard-tells : (piece rest : List ℕ) (taken : ℕ) {s : Receiver} → Fit line s → drop (before + taken) stream ≡ piece ++ rest
       → Tells (heard taken s piece) taken s (piece ++ rest)
-  unfolding heard tells told
+  unfolding heard tells note
   heard-tells [] rest taken {s} fit left = (fit, ap (tell line (seen s) (before + taken)) left)
   heard-tells (b ∷ bs) rest taken {s} fit left =
       let t = at-byte s b in

@@ -15,7 +15,7 @@ use Rattle.link.specs.declared.event.Event.the-variants.{Frame}
 use Rattle.link.specs.declared.event.Verdict.{Verdict}
 use Rattle.link.specs.declared.line.Line.{Line}
 use Rattle.link.specs.declared.line.Line.the-variants.{Point, Addressed}
-use Rattle.link.specs.declared.turn.Phase.the-variants.{Inside}
+use Rattle.link.specs.declared.phase.Phase.the-variants.{Inside}
 use Rattle.link.specs.declared.turn.Turn.the-variants.{Stop}
 use Rattle.link.specs.declared.receiver.Receiver.{Receiver}
 use Rattle.link.specs.Limits.{leastContent}
@@ -27,7 +27,8 @@ use Rattle.link.specs.Refusals.{number}
 use Rattle.link.specs.Events.{Name, FRAME, happened, named}
 use Rattle.link.specs.Turning.{verdict}
 use Rattle.link.specs.Receiving.{fresh, Made, freshMade, outcome}
-use Rattle.link.specs.Hearing.{Told, telling, told, IsFresh, point, addressed, Hearing, Stands, Rise, Lists}
+use Rattle.link.specs.Hearing.{Told, toldAt, note, IsFresh, point, addressed, Hearing}
+use Rattle.link.specs.Listing.{Stands, Rise, Lists}
 use Rattle.link.proofs.Laws.Choice.{cond-elim}
 use Rattle.link.proofs.Laws.Right.{front-withCheck, withCheck-right}
 use Rattle.link.proofs.Laws.View.{View, being, outside, seen, turns, next, entry, Fit, fresh-fit}
@@ -62,8 +63,8 @@ rise-later : {at more : ℕ} (l : List Told) → at ≤ more → Rise more l →
 rise-later [] h r = tt
 rise-later (t ∷ ts) h r = (omega (arith, r .0), r .1)
 
-rise-told : (at : ℕ) (n : Name) (c : List ℕ) (l : List Told) → Rise (at + 1) l → Rise at (told (at + 1) n c ++ l)
-unfolding told
+rise-told : (at : ℕ) (n : Name) (c : List ℕ) (l : List Told) → Rise (at + 1) l → Rise at (note (at + 1) n c ++ l)
+unfolding note
 rise-told at n c l r =
     cond-elim (λ (e : List Told). Rise at (e ++ l)) (happened n) (λ t. (omega arith, r)) (λ f. rise-later l (omega arith) r)
 
@@ -93,17 +94,17 @@ unfolding verdict
 right-verdict check content least = rw (le-ltb (length (withCheck check content)) leastContent least, withCheck-right check content)
 
 frame-entry : (line : Line) (content : List ℕ) (place : ℕ) → leastContent ≤ length (checked line content)
-    → entry line (being Inside (checked line content)) place Stop ≡ telling place FRAME content ∷ []
-unfolding entry outcome told front
+    → entry line (being Inside (checked line content)) place Stop ≡ toldAt place FRAME content ∷ []
+unfolding entry outcome note front
 frame-entry line content place least =
-    ap (λ (v : Verdict). told place (named (v .event)) (take (v .length) (checked line content))) (right-verdict (checkOn line) content least)
-    ∙ ap (told place FRAME) (front-withCheck (checkOn line) content)
+    ap (λ (v : Verdict). note place (named (v .event)) (take (v .length) (checked line content))) (right-verdict (checkOn line) content least)
+    ∙ ap (note place FRAME) (front-withCheck (checkOn line) content)
 
 stands-told : (line : Line) → mayStand line ≡ true → (stream : List ℕ) (v : View) (place : ℕ) (content : List ℕ)
     → Stands line stream place content
-    → List·Memᴰ (telling place FRAME content) (tell line v 0 stream)
+    → List·Memᴰ (toldAt place FRAME content) (tell line v 0 stream)
 stands-told line good stream v place content s =
-    let x = telling place FRAME content in
+    let x = toldAt place FRAME content in
     let c = checked line content in
     let end : 0 + length (s .before) + length (image c) ≡ place = omega (arith, s .ends) in
     let told : List·Memᴰ x (entry line (being Inside c) (0 + length (s .before) + length (image c)) Stop) =

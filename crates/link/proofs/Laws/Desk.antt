@@ -15,8 +15,8 @@ use Rattle.link.specs.declared.event.Event.{Event}
 use Rattle.link.specs.declared.event.Verdict.{Verdict}
 use Rattle.link.specs.declared.line.Line.{Line}
 use Rattle.link.specs.declared.line.Line.the-variants.{Point, Addressed}
-use Rattle.link.specs.declared.turn.Phase.{Phase}
-use Rattle.link.specs.declared.turn.Phase.the-variants.{Outside, Inside, Pending}
+use Rattle.link.specs.declared.phase.Phase.{Phase}
+use Rattle.link.specs.declared.phase.Phase.the-variants.{Outside, Inside, Pending}
 use Rattle.link.specs.declared.turn.Turn.{Turn}
 use Rattle.link.specs.Limits.{leastContent, mostContent}
 use Rattle.link.specs.Stuffing.{special, stuffed, stuffing}
@@ -26,7 +26,8 @@ use Rattle.link.specs.Line.{checkOn, checked, mayStand, Taken}
 use Rattle.link.specs.Events.{Name, FRAME, named, happened}
 use Rattle.link.specs.Turning.{verdict}
 use Rattle.link.specs.Receiving.{outcome}
-use Rattle.link.specs.Hearing.{Told, telling, told, Stands}
+use Rattle.link.specs.Hearing.{Told, toldAt, note}
+use Rattle.link.specs.Listing.{Stands}
 use Rattle.link.proofs.Laws.Choice.{cond-elim}
 use Rattle.link.proofs.Laws.Address.{takes-plain}
 use Rattle.link.proofs.Laws.Stuffing.{stuffed-other, stuffed-special}
@@ -138,11 +139,11 @@ verdict-frame check k =
     P : Verdict → Type 0
     P v = FRAME ≡ named (v .event) → IsFrame check k v
 
-told-frame : {place p : ℕ} {content c : List ℕ} (n : Name) → List·Memᴰ (telling place FRAME content) (told p n c)
+told-frame : {place p : ℕ} {content c : List ℕ} (n : Name) → List·Memᴰ (toldAt place FRAME content) (note p n c)
     → (place ≡ p) × (FRAME ≡ n) × (content ≡ c)
-unfolding told
+unfolding note
 told-frame {place} {p} {content} {c} n =
-    cond-elim (λ (l : List Told). List·Memᴰ (telling place FRAME content) l → (place ≡ p) × (FRAME ≡ n) × (content ≡ c)) (happened n)
+    cond-elim (λ (l : List Told). List·Memᴰ (toldAt place FRAME content) l → (place ≡ p) × (FRAME ≡ n) × (content ≡ c)) (happened n)
     (λ t m. let e = List·Memᴰ·eq-of-singleton m in
     (ap (λ (x : Told). x .place) e, ap (λ (x : Told). x .event) e, ap (λ (x : Told). x .content) e))
     (λ f m. absurd (List·Memᴰ·not-nil m))
@@ -170,9 +171,9 @@ module _ (line : Line) (good : mayStand line ≡ true) where
 
   entry-stands : (heard rest : List ℕ) {phase : Phase} (k : List ℕ) (b place : ℕ) (content : List ℕ) {t : Turn}
       → Why line (length k) b phase t → Trace line heard phase k
-      → List·Memᴰ (telling place FRAME content) (entry line (being phase k) (length heard + 1) t)
+      → List·Memᴰ (toldAt place FRAME content) (entry line (being phase k) (length heard + 1) t)
       → Stands line (heard ++ (b ∷ rest)) place content
-  unfolding entry outcome told
+  unfolding entry outcome note
   entry-stands heard rest k b place content (begins s) e m = absurd (List·Memᴰ·not-nil m)
   entry-stands heard rest k b place content rests e m = absurd (List·Memᴰ·not-nil m)
   entry-stands heard rest k b place content (stops s) e m =
@@ -185,7 +186,7 @@ module _ (line : Line) (good : mayStand line ≡ true) where
       absurd (false≢true (ap fault (told-frame (named why) m .1) ∙ f))
 
   pub tell-stands : (w heard : List ℕ) (v : View) → Trace line heard (v .phase) (v .kept) → (place : ℕ) (content : List ℕ)
-      → List·Memᴰ (telling place FRAME content) (tell line v (length heard) w)
+      → List·Memᴰ (toldAt place FRAME content) (tell line v (length heard) w)
       → Stands line (heard ++ w) place content
   unfolding tell
   tell-stands [] heard v e place content m = absurd (List·Memᴰ·not-nil m)
@@ -195,5 +196,5 @@ module _ (line : Line) (good : mayStand line ≡ true) where
       let on = tell-stands bs (heard ++ (b ∷ [])) (next v t) (trace-next line good heard (v .kept) b why e) place content in
       let end : length heard + 1 ≡ length (heard ++ (b ∷ [])) = sym (length-append heard (b ∷ [])) in
       ⊎-elim (entry-stands heard bs (v .kept) b place content why e)
-      (λ n. rw append-assoc at (on (subst (λ (at : ℕ). List·Memᴰ (telling place FRAME content) (tell line (next v t) at bs)) end n)))
+      (λ n. rw append-assoc at (on (subst (λ (at : ℕ). List·Memᴰ (toldAt place FRAME content) (tell line (next v t) at bs)) end n)))
       (List·Memᴰ·append-cases (entry line v (length heard + 1) t) m)

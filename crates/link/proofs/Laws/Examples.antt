@@ -8,11 +8,11 @@ use Rattle.link.specs.Fcs.{shiftStep, shiftSteps, byteStep, run, residue
 use Rattle.link.specs.Sum.{total, sum}
 use Rattle.link.specs.Frame.{checkOf, withCheck, front, came, alike, isRight, pointContent, addressedContent}
 use Rattle.link.specs.Address.{takes}
-use Rattle.link.specs.Turning.{kept, plain, partner, content, inside, within, turn, verdict}
+use Rattle.link.specs.Turning.{kept, plain, partner, contentByte, inside, within, turn, verdict}
 use Rattle.link.specs.Receiving.{moved, outcome, heard, received}
-use Rattle.link.specs.Hearing.{told, tells}
+use Rattle.link.specs.Hearing.{note, tells}
 
 pub each-holds : EachHolds examples
 unfolding stuffed stuffing image shiftStep shiftSteps byteStep run residue fcs fcsBytes total sum checkOf withCheck pointContent addressedContent
-    front came alike isRight takes kept plain partner content inside within turn verdict moved outcome heard received told tells
+    front came alike isRight takes kept plain partner contentByte inside within turn verdict moved outcome heard received note tells
 each-holds = (refl, (refl, (refl, (refl, (refl, (refl, (refl, (refl, (refl, (refl, (refl, (refl, (refl, (refl, (refl, (refl, (refl, (refl, (refl, (refl, tt))))))))))))))))))))

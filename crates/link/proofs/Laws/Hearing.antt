@@ -15,7 +15,7 @@ use Rattle.link.specs.declared.frame.Check.{Check}
 use Rattle.link.specs.declared.event.Event.{Event}
 use Rattle.link.specs.declared.event.Verdict.{Verdict}
 use Rattle.link.specs.declared.line.Line.{Line}
-use Rattle.link.specs.declared.turn.Phase.{Phase}
+use Rattle.link.specs.declared.phase.Phase.{Phase}
 use Rattle.link.specs.declared.turn.Turn.{Turn}
 use Rattle.link.specs.declared.receiver.Receiver.{Receiver}
 use Rattle.link.specs.declared.receiver.Heard.{Heard}

@@ -20,7 +20,8 @@ use Rattle.link.specs.Line.{checkOn, checked, Taken}
 use Rattle.link.specs.Events.{FRAME}
 use Rattle.link.specs.Refusals.{answered}
 use Rattle.link.specs.Writing.{After, after, written, pointWritten, addressedWritten, ByTable, tooLong, badAddress, noRoom, frame}
-use Rattle.link.specs.Hearing.{Told, telling, IsFresh, Hearing, Stands, Says, onPoint, onAddressed, Image}
+use Rattle.link.specs.Hearing.{Told, toldAt, IsFresh, Hearing}
+use Rattle.link.specs.Listing.{Stands, Says, onPoint, onAddressed, IsImage}
 use Rattle.link.proofs.Laws.Frame.{length-withCheck, length-point, length-addressed}
 use Rattle.link.proofs.Laws.Writing.{by-table}
 use Rattle.link.proofs.Laws.Demand.{demand-three}
@@ -70,7 +71,7 @@ pub point-listed : (r : Counted) (identifier command : ℕ) («data» out out′
     → answered r .refusal ≡ 0
     → IsFresh Point s
     → Hearing (before ++ (take (r .count) out′ ++ rest)) s 0 all
-    → List·Memᴰ (telling (length before + r .count) FRAME (identifier ∷ command ∷ «data»)) all
+    → List·Memᴰ (toldAt (length before + r .count) FRAME (identifier ∷ command ∷ «data»)) all
 unfolding pointWritten pointContent
 point-listed r identifier command «data» out out′ before rest says none fr h =
     let front = identifier ∷ command ∷ «data» in
@@ -84,7 +85,7 @@ pub addressed-listed : (r : Counted) (station address identifier command : ℕ) 
     → takes station address ≡ true
     → IsFresh (Addressed station) s
     → Hearing (before ++ (take (r .count) out′ ++ rest)) s 0 all
-    → List·Memᴰ (telling (length before + r .count) FRAME (address ∷ identifier ∷ command ∷ «data»)) all
+    → List·Memᴰ (toldAt (length before + r .count) FRAME (address ∷ identifier ∷ command ∷ «data»)) all
 unfolding addressedWritten addressedContent withCheck
 addressed-listed r station address identifier command «data» out out′ before rest says none taken fr h =
     let front = address ∷ identifier ∷ command ∷ «data» in
@@ -108,7 +109,7 @@ says (Addressed station) (address ∷ identifier ∷ command ∷ «data») least
 
 -- every listed frame is the image of what its content says, byte for byte
 pub listed-image : {line : Line} {s : Receiver} {stream : List ℕ} {all : List Told} → IsFresh line s → Hearing stream s 0 all
-    → (place : ℕ) (content : List ℕ) → List·Memᴰ (telling place FRAME content) all → Image line stream place content
+    → (place : ℕ) (content : List ℕ) → List·Memᴰ (toldAt place FRAME content) all → IsImage line stream place content
 listed-image {line} fr h place content m =
     let s = demand-three fr h .only place content m in
     record {

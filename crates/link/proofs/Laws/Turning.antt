@@ -9,8 +9,8 @@ use borrow.Author.Tests.{eqb-true, leb-true, ltb-true, lt-ltb, le-leb, ne-eqb}
 use Rattle.link.specs.declared.event.Event.{Event}
 use Rattle.link.specs.declared.line.Line.{Line}
 use Rattle.link.specs.declared.line.Line.the-variants.{Point, Addressed}
-use Rattle.link.specs.declared.turn.Phase.{Phase}
-use Rattle.link.specs.declared.turn.Phase.the-variants.{Outside, Inside, Pending}
+use Rattle.link.specs.declared.phase.Phase.{Phase}
+use Rattle.link.specs.declared.phase.Phase.the-variants.{Outside, Inside, Pending}
 use Rattle.link.specs.declared.turn.Turn.{Turn}
 use Rattle.link.specs.declared.turn.Turn.the-variants.{Rest, Begin, Wait, Keep, Stop, Tell}
 use Rattle.link.specs.Limits.{mostContent}
@@ -18,7 +18,7 @@ use Rattle.link.specs.Stuffing.{special}
 use Rattle.link.specs.Image.{start, stop}
 use Rattle.link.specs.Address.{takes}
 use Rattle.link.specs.Events.{Name, NONE, FRAME, CHECK, SHORT, LONG, PAIR, ADDR, named}
-use Rattle.link.specs.Turning.{kept, plain, partner, content, inside, within, turn}
+use Rattle.link.specs.Turning.{kept, plain, partner, contentByte, inside, within, turn}
 use Rattle.link.proofs.Laws.Choice.{cond-elim}
 
 -- behind so many content bytes this byte stands for itself: the first of the addressed line is taken, any other is not special
@@ -74,12 +74,12 @@ module _ (line : Line) (count b : ℕ) where
       cond-elim (Why line count b Pending) (leb b 0x02) (λ t. kept-why (0xFF - b) (pairs (leb-true b 0x02 t))) (λ f. tells refl)
 
 -- behind the address the addressed line is like the point line
-later-content : (station count b : ℕ) → content (Addressed station) (suc count) b ≡ plain (suc count) b
-unfolding content
+later-content : (station count b : ℕ) → contentByte (Addressed station) (suc count) b ≡ plain (suc count) b
+unfolding contentByte
 later-content station count b = rw (eqb·suc-zero count)
 
-content-why : (line : Line) (count b : ℕ) → eqb b start ≡ false → eqb b stop ≡ false → Why line count b Inside (content line count b)
-unfolding content
+content-why : (line : Line) (count b : ℕ) → eqb b start ≡ false → eqb b stop ≡ false → Why line count b Inside (contentByte line count b)
+unfolding contentByte
 content-why Point count b f g = plain-why Point count b tt (λ e. e) f g
 content-why (Addressed station) zero b f g =
     cond-elim (Why (Addressed station) zero b Inside) (takes station b)
@@ -131,8 +131,8 @@ unfolding turn within partner
 pair-turn line count p known room =
     rw (ne-eqb p start (omega arith), le-leb p 0x02 known) (kept-turn count (0xFF - p) room)
 
-wait-content : (line : Line) (count : ℕ) → Later line count → content line count 0xFF ≡ Wait
-unfolding content plain
+wait-content : (line : Line) (count : ℕ) → Later line count → contentByte line count 0xFF ≡ Wait
+unfolding contentByte plain
 wait-content Point count later = refl
 wait-content (Addressed station) zero later = absurd later
 wait-content (Addressed station) (suc count) later = later-content station count 0xFF
@@ -147,8 +147,8 @@ plain-turn count b whole room =
     let h : eqb b 0xFF ≡ false = ne-eqb b 0xFF (λ e. true≢false (rw e at whole)) in
     rw h (kept-turn count b room)
 
-keep-content : (line : Line) (count b : ℕ) → Whole line count b → count < mostContent → content line count b ≡ Keep b
-unfolding content
+keep-content : (line : Line) (count b : ℕ) → Whole line count b → count < mostContent → contentByte line count b ≡ Keep b
+unfolding contentByte
 keep-content Point count b whole room = plain-turn count b whole room
 keep-content (Addressed station) zero b whole room = rw whole (kept-turn zero b room)
 keep-content (Addressed station) (suc count) b whole room = later-content station count b ∙ plain-turn (suc count) b whole room

@@ -13,8 +13,8 @@ use lib.Seq.{length-take-le, take-take, take-suc-set}
 use Rattle.link.specs.declared.frame.Check.{Check}
 use Rattle.link.specs.declared.event.Verdict.{Verdict}
 use Rattle.link.specs.declared.line.Line.{Line}
-use Rattle.link.specs.declared.turn.Phase.{Phase}
-use Rattle.link.specs.declared.turn.Phase.the-variants.{Outside, Inside, Pending}
+use Rattle.link.specs.declared.phase.Phase.{Phase}
+use Rattle.link.specs.declared.phase.Phase.the-variants.{Outside, Inside, Pending}
 use Rattle.link.specs.declared.turn.Turn.{Turn}
 use Rattle.link.specs.declared.turn.Turn.the-variants.{Rest, Begin, Wait, Keep, Stop, Tell}
 use Rattle.link.specs.declared.receiver.Receiver.{Receiver}
@@ -23,7 +23,7 @@ use Rattle.link.specs.Line.{checkOn}
 use Rattle.link.specs.Events.{named}
 use Rattle.link.specs.Turning.{turn, verdict}
 use Rattle.link.specs.Receiving.{fresh, moved, ends, outcome}
-use Rattle.link.specs.Hearing.{Told, told}
+use Rattle.link.specs.Hearing.{Told, note}
 use Rattle.link.proofs.Laws.Choice.{cond-elim}
 use Rattle.link.proofs.Laws.Turning.{Room}
 
@@ -57,7 +57,7 @@ next v (Tell why) = outside
 unfoldable pub entry : Line → View → ℕ → Turn → List Told
 entry line v place t =
     let o = outcome (checkOn line) (v .kept) t in
-    told place (named (o .event)) (take (o .length) (v .kept))
+    note place (named (o .event)) (take (o .length) (v .kept))
 
 verdict-length : (check : Check) (kept : List ℕ) → verdict check kept .length ≤ length kept
 unfolding verdict
@@ -119,16 +119,16 @@ module _ {line : Line} {s : Receiver} (fit : Fit line s) where
 
   pub entry-seen : (place : ℕ) (t : Turn)
       → let o = outcome (checkOn (s .line)) (seen s .kept) t in
-      told place (named (o .event)) (take (o .length) (moved s t .content)) ≡ entry line (seen s) place t
+      note place (named (o .event)) (take (o .length) (moved s t .content)) ≡ entry line (seen s) place t
   unfolding entry
   entry-seen place t =
       let o = outcome (checkOn (s .line)) (seen s .kept) t in
-      ap (told place (named (o .event))) (carried-seen (checkOn (s .line)) t)
-      ∙ ap (λ (l : Line). let p = outcome (checkOn l) (seen s .kept) t in told place (named (p .event)) (take (p .length) (seen s .kept))) (fit .on)
+      ap (note place (named (o .event))) (carried-seen (checkOn (s .line)) t)
+      ∙ ap (λ (l : Line). let p = outcome (checkOn l) (seen s .kept) t in note place (named (p .event)) (take (p .length) (seen s .kept))) (fit .on)
 
 -- a turn without an event has no entry
 pub quiet : (line : Line) (v : View) (place : ℕ) (t : Turn) → ends t ≡ false → entry line v place t ≡ []
-unfolding entry outcome told
+unfolding entry outcome note
 quiet line v place Rest e = refl
 quiet line v place Begin e = refl
 quiet line v place Wait e = refl

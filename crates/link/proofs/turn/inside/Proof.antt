@@ -3,7 +3,7 @@
 use mathlib.Core.Path.{sym, _∙_}
 use native.Mathlib.Omega.{arith}
 use borrow.Author.Tests.{eq-eqb, ne-eqb}
-use Rattle.link.specs.Turning.{content, inside}
+use Rattle.link.specs.Turning.{contentByte, inside}
 use borrow.Author.Needs.{needs}
 use Rattle.link.proofs.turn.inside.Statement.{statement}
 use Rattle.link.proofs.turn.inside.Tie as tie
@@ -25,7 +25,7 @@ plain-requires-2 : tie.Need-plain-requires-2
 plain-requires-2 c κs = search needs
 
 returns-2 : tie.Need-returns-2
-unfolding content inside
+unfolding contentByte inside
 returns-2 c =
     let d = c .before .before .before .before .before in
     simp (ne-eqb _ _ (d .if1 .left), c .before .before .before .line .given .1, ne-eqb (d .before .args .count) 0 (λ e. omega arith))
@@ -38,7 +38,7 @@ kept-requires : tie.Need-kept-requires
 kept-requires c κs = search needs
 
 returns-3 : tie.Need-returns-3
-unfolding content inside
+unfolding contentByte inside
 returns-3 c =
     let d = c .before .before .before .before .before .before .before in
     simp (
@@ -50,11 +50,11 @@ returns-3 c =
     (c .kept .ensures)
 
 returns-4 : tie.Need-returns-4
-unfolding content inside
+unfolding contentByte inside
 returns-4 c = simp (ne-eqb _ _ (c .before .before .before .if1 .left), c .before .enum-told .given .1) (c .plain .ensures)
 
 returns-5 : tie.Need-returns-5
-unfolding content inside
+unfolding contentByte inside
 returns-5 c =
     let d = c .before .before .before .before .before .before in
     simp (
