@@ -11,6 +11,7 @@ pub mod Fcs
 pub mod Frame
 pub mod Right
 pub mod Refusals
+pub mod Events
 pub mod Writing
 pub mod Address
 pub mod Turning

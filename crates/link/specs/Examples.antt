@@ -67,6 +67,9 @@ examples =
     ∷ hears Point (0xFD ∷ 0xFD ∷ 0x00 ∷ 0x00 ∷ 0x47 ∷ 0x0F ∷ 0xFE ∷ []) 7 FRAME (0x00 ∷ 0x00 ∷ [])
     -- P11: CHECK
     ∷ hears Point (0xFD ∷ 0x00 ∷ 0x00 ∷ 0x47 ∷ 0x0E ∷ 0xFE ∷ []) 6 CHECK (0x00 ∷ 0x00 ∷ [])
+    -- 7F reaches every reader, and not the master
+    ∷ hears (Addressed 0x05) (0xFD ∷ 0x7F ∷ 0x01 ∷ 0x10 ∷ 0x90 ∷ 0xFE ∷ []) 6 FRAME (0x7F ∷ 0x01 ∷ 0x10 ∷ [])
+    ∷ hears master (0xFD ∷ 0x7F ∷ []) 2 ADDR []
     -- content 64 passes, plain and stuffed
     ∷ hears Point (image (withCheck Fcs (pointFront 62 0x11))) 66 FRAME (pointFront 62 0x11)
     ∷ hears Point (image (withCheck Fcs (pointFront 62 0xFF))) 128 FRAME (pointFront 62 0xFF)

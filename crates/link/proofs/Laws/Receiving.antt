@@ -1,17 +1,21 @@
 -- Laws of one call of a receiver: its refusals, and that what is left of the piece gives what the whole piece gives.
 -- Assumes nothing.
-use mathlib.Core.Path.{_≡_}
-use mathlib.Core.Bool.{true, false, or-true}
-use mathlib.Core.List.{List}
+use mathlib.Core.Path.{_≡_, refl}
+use mathlib.Core.Bool.{Bool, true, false, cond, or-true}
+use mathlib.Core.List.{List, [], _∷_}
 use Prim.Native.Nat.{ℕ, _+_, _≤_, _<_}
 use lib.ListN.{length, take, drop, getD, drop-of-length-le}
 use borrow.Author.Tests.{lt-ltb, le-ltb}
+use Rattle.link.specs.declared.refusal.Refusal.the-variants.{BadState}
 use Rattle.link.specs.declared.turn.Turn.{Turn}
 use Rattle.link.specs.declared.receiver.Receiver.{Receiver}
 use Rattle.link.specs.Limits.{mostContent}
 use Rattle.link.specs.Line.{checkOn, mayStand}
+use Rattle.link.specs.Refusals.{number}
+use Rattle.link.specs.Events.{NONE}
 use Rattle.link.specs.Turning.{turn}
-use Rattle.link.specs.Receiving.{moved, ends, silent, outcome, telling, heard, refusedState, received}
+use Rattle.link.specs.Receiving.{moved, ends, silent, outcome, telling, heard, badState, refusedState, Said, received}
+use Rattle.link.proofs.Laws.Choice.{cond-elim}
 use Rattle.link.proofs.Laws.Lists.{drop-next}
 
 -- ---- row 4 of the refusal table: when, and else the piece is heard
@@ -28,6 +32,30 @@ module _ (s : Receiver) (piece : List ℕ) where
   pub hears : s .count ≤ mostContent → mayStand (s .line) ≡ true → received s piece ≡ heard 0 s piece
   unfolding received
   hears within good = rw (le-ltb mostContent (s .count) within, good)
+
+-- ---- and only then
+
+accepts : (piece : List ℕ) (taken : ℕ) (s : Receiver) → heard taken s piece .refusal ≡ 0
+unfolding heard
+accepts [] taken s = refl
+accepts (b ∷ bs) taken s =
+    let t = turn (s .line) (s .phase) (s .count) b in
+    let rec = accepts bs (taken + 1) (moved s t) in
+    cond-elim (λ (said : Said). said .refusal ≡ 0) (ends t) (λ y. refl) (λ n. rec)
+
+pub refused-only : (s : Receiver) (piece : List ℕ) → received s piece .refusal ≡ cond (badState s) (number BadState) 0
+unfolding received
+refused-only s piece = go (badState s)
+  where
+    go : (t : Bool) → cond t (refusedState s) (heard 0 s piece) .refusal ≡ cond t (number BadState) 0
+    go true = refl
+    go false = accepts piece 0 s
+
+-- an empty piece changes nothing
+pub empty-piece : (s : Receiver) → received s [] .receiver ≡ s × received s [] .event ≡ NONE × received s [] .taken ≡ 0
+unfolding received heard
+empty-piece s =
+    cond-elim (λ (said : Said). said .receiver ≡ s × said .event ≡ NONE × said .taken ≡ 0) (badState s) (λ t. (refl, refl, refl)) (λ f. (refl, refl, refl))
 
 -- ---- the piece byte by byte
 
