@@ -1,7 +1,7 @@
 -- What one byte means to a receiver, rule by rule, and what the byte that ends a frame tells.
 -- 01, How the receiver moves; the numbers are those of its rules. Assumes nothing.
 use Prim.Native.Nat.{ℕ, _-_}
-use mathlib.Core.Bool.{cond}
+use mathlib.Core.Bool.{Bool, cond}
 use mathlib.Core.List.{List}
 use lib.Dec.{eqb, ltb, leb}
 use lib.ListN.{length}
@@ -51,8 +51,12 @@ within line Pending count b = partner count b
 unfoldable pub turn : Line → Phase → ℕ → ℕ → Turn
 turn line phase count b = cond (eqb b start) Begin (within line phase count b)
 
--- 1. fewer than 4 content bytes: SHORT, otherwise a wrong check: CHECK, otherwise FRAME; the last two carry what stands before the check
+-- 1. fewer than 4 content bytes
+abbrev pub tooShort : List ℕ → Bool
+tooShort content = ltb (length content) leastContent
+
+-- 1. they are SHORT, otherwise a wrong check is CHECK, otherwise FRAME; the last two carry what stands before the check
 unfoldable pub verdict : Check → List ℕ → Verdict
 verdict check content =
-    cond (ltb (length content) leastContent) (record { event = Short; length = 0 })
+    cond (tooShort content) (record { event = Short; length = 0 })
     (record { event = cond (isRight check content) Frame event.Check; length = length content - checkLength check })

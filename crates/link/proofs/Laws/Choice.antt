@@ -1,7 +1,7 @@
 -- A choice, and two tests in one, taken apart.
 -- Assumes nothing.
 use mathlib.Core.Path.{_≡_, refl}
-use mathlib.Core.Bool.{Bool, true, false, cond, _||_}
+use mathlib.Core.Bool.{Bool, true, false, cond, _||_, true≢false}
 
 -- what holds of the first where the test is true, and of the second where it is false, holds of the choice
 pub cond-elim : {A : Type 0} (P : A → Type 0) (t : Bool) {x y : A} → (t ≡ true → P x) → (t ≡ false → P y) → P (cond t x y)
@@ -12,3 +12,7 @@ cond-elim P false f g = g refl
 pub or-elim : {P : Type 0} (s t : Bool) → (s ≡ true → P) → (t ≡ true → P) → (s || t) ≡ true → P
 or-elim true t f g e = f refl
 or-elim false t f g e = g e
+
+pub or-none : (s t : Bool) → (s || t) ≡ false → (s ≡ false) × (t ≡ false)
+or-none true t e = absurd (true≢false e)
+or-none false t e = (refl, e)

@@ -7,7 +7,6 @@ use mathlib.Core.List.{List, [], _∷_, _++_, append-assoc, append-nil, List·Me
 use mathlib.Core.Logic.{⊎-elim}
 use Prim.Native.Nat.{ℕ, zero, suc, _+_, _-_, _≤_, zero-le}
 use native.Mathlib.Omega.{arith}
-use lib.Dec.{ltb}
 use lib.ListN.{length, take, length-append}
 use borrow.Author.Tests.{ltb-false}
 use Rattle.link.specs.declared.frame.Check.{Check}
@@ -24,7 +23,7 @@ use Rattle.link.specs.Image.{start, stop, image}
 use Rattle.link.specs.Frame.{checkLength, withCheck, front, isRight}
 use Rattle.link.specs.Line.{checkOn, checked, mayStand, Taken}
 use Rattle.link.specs.Events.{Name, FRAME, named, happened}
-use Rattle.link.specs.Turning.{verdict}
+use Rattle.link.specs.Turning.{tooShort, verdict}
 use Rattle.link.specs.Receiving.{outcome}
 use Rattle.link.specs.Hearing.{Told, toldAt, note}
 use Rattle.link.specs.Listing.{Stands}
@@ -131,7 +130,7 @@ record IsFrame (check : Check) (k : List ℕ) (v : Verdict) : Type 0 where
 verdict-frame : (check : Check) (k : List ℕ) → FRAME ≡ named (verdict check k .event) → IsFrame check k (verdict check k)
 unfolding verdict front
 verdict-frame check k =
-    cond-elim P (ltb (length k) leastContent) (λ t e. let z : _≡_ {A = ℕ} 0 1 = cc in absurd (omega arith))
+    cond-elim P (tooShort k) (λ t e. let z : _≡_ {A = ℕ} 0 1 = cc in absurd (omega arith))
     (λ f. cond-elim (λ (n : Event). P (record { event = n; length = length k - checkLength check })) (isRight check k)
     (λ r e. record { least = ltb-false (length k) leastContent f; whole = right-withCheck check k r; carried = refl })
     (λ w e. let z : _≡_ {A = ℕ} 0 1 = cc in absurd (omega arith)))

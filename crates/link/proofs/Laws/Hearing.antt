@@ -2,14 +2,15 @@
 -- where it tells nothing, and an empty piece changes nothing.
 -- Assumes nothing.
 use mathlib.Core.Path.{_≡_, refl, sym, ap, _∙_}
-use mathlib.Core.Bool.{true, false, true≢false, false≢true}
+use mathlib.Core.Bool.{true, false, not, true≢false, false≢true}
 use mathlib.Core.List.{List, [], _∷_, _++_, append-nil}
-use Prim.Native.Nat.{ℕ, zero, suc, _+_, _-_, _≤_, _<_}
-use native.Mathlib.Nat.{add-zero}
+use Prim.Native.Nat.{ℕ, zero, suc, _+_, _-_, _≤_, _<_, zero-le}
+use native.Mathlib.Nat.{add-zero, min-le-left}
 use native.Mathlib.Decide.{decLe}
 use native.Mathlib.Omega.{arith}
 use lib.Dec.{ltb}
-use lib.ListN.{length, take, drop, length-drop}
+use lib.ListN.{length, take, drop, length-take, length-drop}
+use borrow.Author.Tests.{ltb-false}
 use Rattle.link.specs.declared.refusal.Refusal.the-variants as refusal
 use Rattle.link.specs.declared.frame.Check.{Check}
 use Rattle.link.specs.declared.event.Event.{Event}
@@ -19,17 +20,17 @@ use Rattle.link.specs.declared.phase.Phase.{Phase}
 use Rattle.link.specs.declared.turn.Turn.{Turn}
 use Rattle.link.specs.declared.receiver.Receiver.{Receiver}
 use Rattle.link.specs.declared.receiver.Heard.{Heard}
-use Rattle.link.specs.Limits.{leastContent}
+use Rattle.link.specs.Limits.{mostContent}
 use Rattle.link.specs.Frame.{isRight}
 use Rattle.link.specs.Line.{checkOn, mayStand}
 use Rattle.link.specs.Events.{Name, NONE, FRAME, CHECK, SHORT, LONG, PAIR, ADDR, named, happened}
-use Rattle.link.specs.Turning.{turn, verdict}
-use Rattle.link.specs.Receiving.{Said, saying, moved, ends, outcome, silent, heard, received}
+use Rattle.link.specs.Turning.{turn, tooShort, verdict}
+use Rattle.link.specs.Receiving.{Said, saying, moved, ends, outcome, silent, heard, badState, received}
 use Rattle.link.specs.Hearing.{Told, IsFresh, Hearing, over, call}
-use Rattle.link.proofs.Laws.Choice.{cond-elim}
-use Rattle.link.proofs.Laws.Turning.{Why, begins, rests, stops, waits, keeps, pairs, tells, turn-why, fault}
+use Rattle.link.proofs.Laws.Choice.{cond-elim, or-none}
+use Rattle.link.proofs.Laws.Turning.{turn-room, Why, begins, rests, stops, waits, keeps, pairs, tells, turn-why, fault}
 use Rattle.link.proofs.Laws.Receiving.{hears}
-use Rattle.link.proofs.Laws.View.{Fit}
+use Rattle.link.proofs.Laws.View.{Fit, outcome-length, count-moved}
 use Rattle.link.proofs.Laws.Cuts.{call-tells}
 use Rattle.link.proofs.Laws.Demand.{fresh-begins}
 
@@ -68,12 +69,31 @@ takes-one (b ∷ bs) taken s some =
     let rec = takes-on bs (taken + 1) (moved s t) in
     cond-elim (λ (said : Said). taken < said .taken) (ends t) (λ y. omega arith) (λ n. omega arith)
 
+-- ---- what an event carries lies within the answer's content
+
+heard-within : (piece : List ℕ) (taken : ℕ) (s : Receiver) → s .count ≤ mostContent → heard taken s piece .length ≤ mostContent
+unfolding heard
+heard-within [] taken s within = zero-le
+heard-within (b ∷ bs) taken s within =
+    let t = turn (s .line) (s .phase) (s .count) b in
+    let k = take (s .count) (s .content) in
+    let rec = heard-within bs (taken + 1) (moved s t) (count-moved s t (turn-room (s .line) (s .phase) (s .count) b) within) in
+    cond-elim (λ (said : Said). said .length ≤ mostContent) (ends t)
+    (λ y. omega (arith, outcome-length (checkOn (s .line)) k t, length-take (s .count) (s .content), min-le-left (s .count) (length (s .content))))
+    (λ n. rec)
+
+pub length-within : (s : Receiver) (piece : List ℕ) → received s piece .length ≤ mostContent
+unfolding received
+length-within s piece =
+    cond-elim (λ (said : Said). said .length ≤ mostContent) (badState s) (λ t. zero-le)
+    (λ f. heard-within piece 0 s (ltb-false mostContent (s .count) (or-none (ltb mostContent (s .count)) (not (mayStand (s .line))) f .0)))
+
 -- ---- where a call tells nothing it has taken the whole piece
 
 verdict-happens : (check : Check) (k : List ℕ) → happened (named (verdict check k .event)) ≡ true
 unfolding verdict
 verdict-happens check k =
-    cond-elim (λ (v : Verdict). happened (named (v .event)) ≡ true) (ltb (length k) leastContent) (λ t. refl)
+    cond-elim (λ (v : Verdict). happened (named (v .event)) ≡ true) (tooShort k) (λ t. refl)
     (λ f. cond-elim (λ (e : Event). happened (named e) ≡ true) (isRight check k) (λ r. refl) (λ w. refl))
 
 fault-happens : (n : Name) → fault n ≡ true → happened n ≡ true

@@ -8,7 +8,6 @@ use Prim.Native.Nat.{ℕ, _+_, _≤_, zero-le}
 use native.Mathlib.Numerals.{add-one}
 use native.Mathlib.Omega.{arith}
 use lib.ListN.{length, take, length-set, length-replicate}
-use lib.Dec.{ltb}
 use lib.Seq.{length-take-le, take-take, take-suc-set}
 use Rattle.link.specs.declared.frame.Check.{Check}
 use Rattle.link.specs.declared.event.Verdict.{Verdict}
@@ -18,10 +17,10 @@ use Rattle.link.specs.declared.phase.Phase.the-variants.{Outside, Inside
 use Rattle.link.specs.declared.turn.Turn.{Turn}
 use Rattle.link.specs.declared.turn.Turn.the-variants.{Rest, Begin, Wait, Keep, Stop, Tell}
 use Rattle.link.specs.declared.receiver.Receiver.{Receiver}
-use Rattle.link.specs.Limits.{leastContent, mostContent}
+use Rattle.link.specs.Limits.{mostContent}
 use Rattle.link.specs.Line.{checkOn}
 use Rattle.link.specs.Events.{named}
-use Rattle.link.specs.Turning.{turn, verdict}
+use Rattle.link.specs.Turning.{turn, tooShort, verdict}
 use Rattle.link.specs.Receiving.{fresh, moved, ends, outcome}
 use Rattle.link.specs.Hearing.{Told, note}
 use Rattle.link.proofs.Laws.Choice.{cond-elim}
@@ -62,9 +61,27 @@ entry line v place t =
 verdict-length : (check : Check) (kept : List ℕ) → verdict check kept .length ≤ length kept
 unfolding verdict
 verdict-length check kept =
-    cond-elim (λ (v : Verdict). v .length ≤ length kept) (ltb (length kept) leastContent) (λ t. zero-le) (λ f. omega arith)
+    cond-elim (λ (v : Verdict). v .length ≤ length kept) (tooShort kept) (λ t. zero-le) (λ f. omega arith)
+
+pub outcome-length : (check : Check) (kept : List ℕ) (t : Turn) → outcome check kept t .length ≤ length kept
+unfolding outcome
+outcome-length check kept Rest = zero-le
+outcome-length check kept Begin = zero-le
+outcome-length check kept Wait = zero-le
+outcome-length check kept (Keep b) = zero-le
+outcome-length check kept Stop = verdict-length check kept
+outcome-length check kept (Tell why) = zero-le
 
 -- ---- the record behind it
+
+pub count-moved : (s : Receiver) (t : Turn) → Room (s .count) t → s .count ≤ mostContent → moved s t .count ≤ mostContent
+unfolding moved
+count-moved s Rest room within = within
+count-moved s Begin room within = zero-le
+count-moved s Wait room within = within
+count-moved s (Keep b) room within = omega (arith, room)
+count-moved s Stop room within = zero-le
+count-moved s (Tell why) room within = zero-le
 
 -- a record of this line that no row of the refusal table names
 pub record Fit (line : Line) (s : Receiver) : Type 0 where
