@@ -1,5 +1,7 @@
-// Writes the request for a reader's device header, as it goes over the point line, and prints its bytes.
+// Writes the request for a reader's device header, as it goes over the point line, and prints its bytes; then hands them to a receiver
+// and prints the content of the frame that it hears.
 use libc::STDOUT_FILENO;
+use link::receiver::Receiver;
 
 // The upper-case hexadecimal digit of a number's low four bits.
 fn digit(n: u8) -> u8 {
@@ -23,4 +25,9 @@ fn main() {
     let count = written.count;
     check::expect(count == 6);
     print(&out[..count]);
+    let heard = Receiver::point().receive(&out[..count]);
+    let content = heard.content;
+    let length = heard.length;
+    check::expect(length == 2);
+    print(&content[..length]);
 }

@@ -1,21 +1,43 @@
--- `main` meets its contract: by the writer's statement, which antt computes at these arguments, the frame has six bytes.
+-- `main` meets its contract: by the statements of writer and receiver, which antt computes at these arguments, the frame has six bytes
+-- and the content that is heard two.
 -- Assumes nothing.
-use mathlib.Core.Path.{_≡_, sym, ap}
+use mathlib.Core.Path.{_≡_, sym, ap, ap₂, _∙_}
+use mathlib.Core.List.{[]}
 use native.Mathlib.Omega.{arith}
 use borrow.Author.Needs.{needs}
 use borrow.Author.Tests.{eq-eqb}
+use lib.ListN.{length, take, replicate}
 use lib.Seq.{length-take-le}
+use Rattle.link.specs.declared.line.Line.the-variants.{Point}
 use Rattle.link.specs.Stuffing.{stuffed, stuffing}
 use Rattle.link.specs.Image.{image}
 use Rattle.link.specs.Fcs.{shiftStep, shiftSteps, byteStep, run, residue, fcs, fcsBytes}
-use Rattle.link.specs.Frame.{checkOf, withCheck, pointContent}
+use Rattle.link.specs.Frame.{checkOf, withCheck, front, came, alike, isRight, pointContent}
 use Rattle.link.specs.Writing.{After, imageWritten, written, pointWritten}
+use Rattle.link.specs.Turning.{kept, plain, contentByte, inside, within, turn, verdict}
+use Rattle.link.specs.Receiving.{fresh, Said, saying, moved, outcome, heard, received}
 use Rattle.example.proofs.main.Statement.{statement}
 use Rattle.example.proofs.main.Tie as tie
 
 six : (c : tie.After-write-point) → c .write-point .result .count ≡ 6
 unfolding stuffed stuffing image shiftStep shiftSteps byteStep run residue fcs fcsBytes checkOf withCheck pointContent imageWritten written pointWritten
 six c = ap (λ (l : After). l .answer .count) (c .write-point .ensures)
+
+-- what the receiver says of the six bytes that were written
+said : Said
+said = received (fresh Point) (take 6 (pointWritten 0x00 0x00 [] (replicate 8 0) .out))
+
+hears : (c : tie.After-receive) → saying (c .receive .result) ≡ said
+unfolding said
+hears c =
+    let w = c .before .before .before .before .before .before .before in
+    c .receive .ensures
+    ∙ ap₂ received (c .before .before .point .ensures) (ap₂ take (six w) (ap (λ (a : After). a .out) (w .write-point .ensures)))
+
+two : (c : tie.After-receive) → (c .receive .result .length ≡ 2) × (length (c .receive .result .content) ≡ 64)
+unfolding said stuffed stuffing image shiftStep shiftSteps byteStep run residue fcs fcsBytes checkOf withCheck pointContent imageWritten written
+    pointWritten front came alike isRight kept plain contentByte inside within turn verdict moved outcome heard received
+two c = (ap (λ (s : Said). s .length) (hears c), ap (λ (s : Said). length (s .content)) (hears c))
 
 slice-aggregate-write-point : tie.Need-slice-aggregate-write-point
 slice-aggregate-write-point c = search needs
@@ -38,6 +60,30 @@ slice-aggregate-print c = sym (length-take-le _ _ (array-share-prefix-out (c .be
 print-requires : tie.Need-print-requires
 print-requires c κs = search needs
 
+point-requires : tie.Need-point-requires
+point-requires c κs = search needs
+
+array-share-prefix-out-2 : tie.Need-array-share-prefix-out-2
+array-share-prefix-out-2 c = array-share-prefix-out (c .before .before .before)
+
+slice-aggregate-receive : tie.Need-slice-aggregate-receive
+slice-aggregate-receive c = sym (length-take-le _ _ (array-share-prefix-out-2 (c .before)))
+
+receive-requires : tie.Need-receive-requires
+receive-requires c κs = search needs
+
+expect-requires-2 : tie.Need-expect-requires-2
+expect-requires-2 c κs = eq-eqb (c .before .receive .result .length) 2 (two (c .before) .0)
+
+array-share-prefix-content : tie.Need-array-share-prefix-content
+array-share-prefix-content c = omega (arith, two (c .before .before))
+
+slice-aggregate-print-2 : tie.Need-slice-aggregate-print-2
+slice-aggregate-print-2 c = sym (length-take-le _ _ (array-share-prefix-content (c .before)))
+
+print-requires-2 : tie.Need-print-requires-2
+print-requires-2 c κs = search needs
+
 returns : tie.Need-returns
 returns c = search needs
 
@@ -52,4 +98,12 @@ main-spec =
     array-share-prefix-out
     slice-aggregate-print
     print-requires
+    point-requires
+    array-share-prefix-out-2
+    slice-aggregate-receive
+    receive-requires
+    expect-requires-2
+    array-share-prefix-content
+    slice-aggregate-print-2
+    print-requires-2
     returns)
