@@ -15,6 +15,7 @@ pub mod Events
 pub mod Writing
 pub mod Address
 pub mod Turning
+pub mod Fit
 pub mod Receiving
 pub mod View
 pub mod Cuts

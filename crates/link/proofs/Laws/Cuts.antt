@@ -19,7 +19,8 @@ use Rattle.link.specs.Hearing.{Told, note, tells, Hearing, over, call}
 use Rattle.link.proofs.Laws.Choice.{cond-elim}
 use Rattle.link.proofs.Laws.Turning.{turn-room}
 use Rattle.link.proofs.Laws.Receiving.{hears}
-use Rattle.link.proofs.Laws.View.{View, seen, turns, next, entry, Fit, turns-seen, fit-moved, seen-moved, entry-seen, quiet}
+use Rattle.link.proofs.Laws.Fit.{Fit, fit-moved}
+use Rattle.link.proofs.Laws.View.{View, seen, turns, next, entry, turns-seen, seen-moved, entry-seen, quiet}
 
 -- what the bytes tell one by one, from behind a place on
 unfoldable pub tell : Line → View → ℕ → List ℕ → List Told

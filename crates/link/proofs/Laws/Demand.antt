@@ -31,7 +31,8 @@ use Rattle.link.specs.Hearing.{Told, toldAt, note, IsFresh, point, addre
 use Rattle.link.specs.Listing.{Stands, Rise, Lists}
 use Rattle.link.proofs.Laws.Choice.{cond-elim}
 use Rattle.link.proofs.Laws.Right.{front-withCheck, withCheck-right}
-use Rattle.link.proofs.Laws.View.{View, being, outside, seen, turns, next, entry, Fit, fresh-fit}
+use Rattle.link.proofs.Laws.Fit.{Fit, fresh-fit}
+use Rattle.link.proofs.Laws.View.{View, being, outside, seen, turns, next, entry}
 use Rattle.link.proofs.Laws.Cuts.{tell, hearing-tells}
 use Rattle.link.proofs.Laws.Crew.{image-tells}
 use Rattle.link.proofs.Laws.Desk.{tell-stands}

@@ -30,7 +30,8 @@ use Rattle.link.specs.Hearing.{Told, IsFresh, Hearing, over, call}
 use Rattle.link.proofs.Laws.Choice.{cond-elim, or-none}
 use Rattle.link.proofs.Laws.Turning.{turn-room, Why, begins, rests, stops, waits, keeps, pairs, tells, turn-why, fault}
 use Rattle.link.proofs.Laws.Receiving.{hears}
-use Rattle.link.proofs.Laws.View.{Fit, outcome-length, count-moved}
+use Rattle.link.proofs.Laws.Fit.{Fit, count-moved}
+use Rattle.link.proofs.Laws.View.{outcome-length}
 use Rattle.link.proofs.Laws.Cuts.{call-tells}
 use Rattle.link.proofs.Laws.Demand.{fresh-begins}
 

@@ -7,7 +7,7 @@ use mathlib.Core.List.{List, [], _∷_, _++_}
 use Prim.Native.Nat.{ℕ, _+_, _≤_, zero-le}
 use native.Mathlib.Numerals.{add-one}
 use native.Mathlib.Omega.{arith}
-use lib.ListN.{length, take, length-set, length-replicate}
+use lib.ListN.{length, take}
 use lib.Seq.{length-take-le, take-take, take-suc-set}
 use Rattle.link.specs.declared.frame.Check.{Check}
 use Rattle.link.specs.declared.event.Verdict.{Verdict}
@@ -17,14 +17,14 @@ use Rattle.link.specs.declared.phase.Phase.the-variants.{Outside, Inside
 use Rattle.link.specs.declared.turn.Turn.{Turn}
 use Rattle.link.specs.declared.turn.Turn.the-variants.{Rest, Begin, Wait, Keep, Stop, Tell}
 use Rattle.link.specs.declared.receiver.Receiver.{Receiver}
-use Rattle.link.specs.Limits.{mostContent}
 use Rattle.link.specs.Line.{checkOn}
 use Rattle.link.specs.Events.{named}
 use Rattle.link.specs.Turning.{turn, tooShort, verdict}
-use Rattle.link.specs.Receiving.{fresh, moved, ends, outcome}
+use Rattle.link.specs.Receiving.{moved, ends, outcome}
 use Rattle.link.specs.Hearing.{Told, note}
 use Rattle.link.proofs.Laws.Choice.{cond-elim}
 use Rattle.link.proofs.Laws.Turning.{Room}
+use Rattle.link.proofs.Laws.Fit.{Fit}
 
 pub record View : Type 0 where
   pub phase : Phase
@@ -74,40 +74,12 @@ outcome-length check kept (Tell why) = zero-le
 
 -- ---- the record behind it
 
-pub count-moved : (s : Receiver) (t : Turn) → Room (s .count) t → s .count ≤ mostContent → moved s t .count ≤ mostContent
-unfolding moved
-count-moved s Rest room within = within
-count-moved s Begin room within = zero-le
-count-moved s Wait room within = within
-count-moved s (Keep b) room within = omega (arith, room)
-count-moved s Stop room within = zero-le
-count-moved s (Tell why) room within = zero-le
-
--- a record of this line that no row of the refusal table names
-pub record Fit (line : Line) (s : Receiver) : Type 0 where
-  pub on : s .line ≡ line
-  pub sized : length (s .content) ≡ mostContent
-  pub within : s .count ≤ mostContent
-
-pub fresh-fit : (line : Line) → Fit line (fresh line)
-fresh-fit line = record { on = refl; sized = length-replicate {A = ℕ} mostContent 0; within = zero-le }
-
 module _ {line : Line} {s : Receiver} (fit : Fit line s) where
   length-seen : length (seen s .kept) ≡ s .count
   length-seen = length-take-le (s .count) (s .content) (omega (arith, fit .sized, fit .within))
 
   pub turns-seen : (b : ℕ) → turn (s .line) (s .phase) (s .count) b ≡ turns line (seen s) b
   turns-seen b = ap₂ (λ (l : Line) (n : ℕ). turn l (s .phase) n b) (fit .on) (sym length-seen)
-
-  pub fit-moved : (t : Turn) → Room (s .count) t → Fit line (moved s t)
-  unfolding moved
-  fit-moved Rest room = fit
-  fit-moved Begin room = record { on = fit .on; sized = fit .sized; within = zero-le }
-  fit-moved Wait room = record { on = fit .on; sized = fit .sized; within = fit .within }
-  fit-moved (Keep b) room =
-      record { on = fit .on; sized = length-set (s .content) (s .count) b ∙ fit .sized; within = omega (arith, room) }
-  fit-moved Stop room = record { on = fit .on; sized = fit .sized; within = zero-le }
-  fit-moved (Tell why) room = record { on = fit .on; sized = fit .sized; within = zero-le }
 
   pub seen-moved : (t : Turn) → Room (s .count) t → seen (moved s t) ≡ next (seen s) t
   unfolding moved next

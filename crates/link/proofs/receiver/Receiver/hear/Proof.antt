@@ -1,11 +1,11 @@
 -- `Receiver::hear` meets its contract: what is left of the piece gives what the whole piece gives.
 -- Assumes nothing.
-use mathlib.Core.Path.{_≡_, refl, sym, ap, subst, _∙_}
+use mathlib.Core.Path.{refl, sym, ap, subst, _∙_}
 use mathlib.Core.Logic.{⊎-elim}
-use Prim.Native.Nat.{_+_, _-_, _≤_, _<_, zero-le}
+use Prim.Native.Nat.{_+_, _-_, _<_, zero-le}
 use native.Mathlib.Omega.{arith}
 use borrow.Author.Needs.{needs}
-use lib.ListN.{length, take, drop, length-set, length-map}
+use lib.ListN.{length, take, length-map}
 use lib.Seq.{length-take-le}
 use Rattle.link.specs.declared.frame.Check.{Check}
 use Rattle.link.specs.declared.event.Verdict.{Verdict}
@@ -14,14 +14,13 @@ use Rattle.link.specs.Limits.{mostContent}
 use Rattle.link.specs.Turning.{verdict}
 use Rattle.link.specs.Receiving.{being, outside, moved, outcome, telling, heard}
 use Rattle.link.proofs.Laws.Turning.{Room, turn-room}
-use Rattle.link.proofs.Laws.Receiving.{runs-out, goes-on, breaks-off}
+use Rattle.link.proofs.Laws.Receiving.{Going, runs-out, goes-on, breaks-off}
 use Rattle.link.proofs.receiver.Receiver.hear.Statement.{statement}
 use Rattle.link.proofs.receiver.Receiver.hear.Tie as tie
 
 abbrev Inv-loop : tie.InvT-loop
 Inv-loop piece line phase₀ count₀ content₀ taken₀ phase count content taken =
-    (taken ≤ length piece) × (count ≤ mostContent) × (length content ≡ mostContent)
-    × (heard taken (being line phase count content) (drop taken piece) ≡ heard 0 (being line phase₀ count₀ content₀) piece)
+    Going piece (being line phase₀ count₀ content₀) taken (being line phase count content)
 
 abbrev μ-loop : tie.MeasureT-loop
 μ-loop piece line phase₀ count₀ content₀ taken₀ phase count content taken = length piece - taken
@@ -30,13 +29,13 @@ loop-holds : tie.Need-loop-holds Inv-loop μ-loop
 unfolding heard
 loop-holds c =
     let sized = simp length-map at (c .before .before .good .0 .1 .1 .1 .1 .1 .0 .1 .0 .1) in
-    (zero-le, c .before .before .pre, sized, refl)
+    record { part = zero-le; fit = record { on = refl; sized = sized; within = c .before .before .pre }; same = refl }
 
 told-requires : tie.Need-told-requires Inv-loop μ-loop
 told-requires c κs = search needs
 
 returns : tie.Need-returns Inv-loop μ-loop
-returns c = c .told .ensures ∙ runs-out _ _ _ (omega arith) ∙ c .before .before .loop .inv .3
+returns c = c .told .ensures ∙ runs-out (c .before .before .loop .inv) (omega arith)
 
 shared-slice-read-at-byte : tie.Need-shared-slice-read-at-byte Inv-loop μ-loop
 shared-slice-read-at-byte c = omega arith
@@ -57,8 +56,7 @@ loop-again : tie.Need-loop-again Inv-loop μ-loop
 unfolding moved
 loop-again c =
     let d = c .before .before in
-    let inv = d .before .before .before .loop .inv in
-    (omega arith, inv .1, inv .2, goes-on _ _ _ (omega arith) (sym (c .enum-told .given .1) ∙ d .at-byte .ensures) refl ∙ inv .3)
+    goes-on (d .before .before .before .loop .inv) (omega arith) (sym (c .enum-told .given .1) ∙ d .at-byte .ensures) refl
 
 enum-told-2 : tie.Need-enum-told-2 Inv-loop μ-loop
 enum-told-2 c = search needs
@@ -70,8 +68,7 @@ loop-again-2 : tie.Need-loop-again-2 Inv-loop μ-loop
 unfolding moved
 loop-again-2 c =
     let d = c .before .before in
-    let inv = d .before .before .before .loop .inv in
-    (omega arith, zero-le, inv .2, goes-on _ _ _ (omega arith) (sym (c .enum-told2 .given .1) ∙ d .at-byte .ensures) refl ∙ inv .3)
+    goes-on (d .before .before .before .loop .inv) (omega arith) (sym (c .enum-told2 .given .1) ∙ d .at-byte .ensures) refl
 
 enum-told-3 : tie.Need-enum-told-3 Inv-loop μ-loop
 enum-told-3 c = search needs
@@ -83,8 +80,7 @@ loop-again-3 : tie.Need-loop-again-3 Inv-loop μ-loop
 unfolding moved
 loop-again-3 c =
     let d = c .before .before in
-    let inv = d .before .before .before .loop .inv in
-    (omega arith, inv .1, inv .2, goes-on _ _ _ (omega arith) (sym (c .enum-told3 .given .1) ∙ d .at-byte .ensures) refl ∙ inv .3)
+    goes-on (d .before .before .before .loop .inv) (omega arith) (sym (c .enum-told3 .given .1) ∙ d .at-byte .ensures) refl
 
 enum-known-turn : tie.Need-enum-known-turn Inv-loop μ-loop
 enum-known-turn c = search needs
@@ -109,12 +105,7 @@ loop-again-4 : tie.Need-loop-again-4 Inv-loop μ-loop
 unfolding moved
 loop-again-4 c =
     let d = c .before .before .before in
-    let inv = d .before .before .before .loop .inv in (
-      omega arith,
-      omega (arith, room c),
-      simp length-set (inv .2),
-      goes-on _ _ _ (omega arith) (sym (c .before .turn .given .1) ∙ d .at-byte .ensures) refl ∙ inv .3,
-    )
+    goes-on (d .before .before .before .loop .inv) (omega arith) (sym (c .before .turn .given .1) ∙ d .at-byte .ensures) refl
 
 enum-told-4 : tie.Need-enum-told-4 Inv-loop μ-loop
 enum-told-4 c = search needs
@@ -153,10 +144,9 @@ returns-2 c =
     ∙ ap (λ (r : Receiver). telling r (m .match .verdict) n) (c .before .outside .ensures)
     ∙ ⊎-elim
     (λ w. ap (λ (v : Verdict). on v n) (w .5 ∙ w .4 .ensures ∙ ap (λ (k : Check). verdict k (take (l .loop .count) (l .loop .content))) (w .2 .ensures))
-    ∙ breaks-off _ _ _ (omega arith) (sym (w .1 .given .1) ∙ d .at-byte .ensures) refl)
-    (λ w. ap (λ (v : Verdict). on v n) (w .3) ∙ breaks-off _ _ _ (omega arith) (sym (w .1 .given .1) ∙ d .at-byte .ensures) refl)
+    ∙ breaks-off (l .loop .inv) (omega arith) (sym (w .1 .given .1) ∙ d .at-byte .ensures) refl)
+    (λ w. ap (λ (v : Verdict). on v n) (w .3) ∙ breaks-off (l .loop .inv) (omega arith) (sym (w .1 .given .1) ∙ d .at-byte .ensures) refl)
     (m .match .came)
-    ∙ l .loop .inv .3
 
 pub hear-spec : {M : Type 1} → statement M
 hear-spec =
