@@ -19,9 +19,9 @@ use Rattle.link.specs.Receiving.{fresh, Said, saying, moved, outcome, heard, re
 use Rattle.example.proofs.main.Statement.{statement}
 use Rattle.example.proofs.main.Tie as tie
 
-six : (c : tie.After-write-point) → c .write-point .result .count ≡ 6
+counts : (c : tie.After-write-point) → c .write-point .result .count ≡ 6
 unfolding stuffed stuffing image shiftStep shiftSteps byteStep run residue fcs fcsBytes checkOf withCheck pointContent imageWritten written pointWritten
-six c = ap (λ (l : After). l .answer .count) (c .write-point .ensures)
+counts c = ap (λ (l : After). l .answer .count) (c .write-point .ensures)
 
 -- what the receiver says of the six bytes that were written
 said : Said
@@ -32,12 +32,12 @@ unfolding said
 hears c =
     let w = c .before .before .before .before .before .before .before in
     c .receive .ensures
-    ∙ ap₂ received (c .before .before .point .ensures) (ap₂ take (six w) (ap (λ (a : After). a .out) (w .write-point .ensures)))
+    ∙ ap₂ received (c .before .before .point .ensures) (ap₂ take (counts w) (ap (λ (a : After). a .out) (w .write-point .ensures)))
 
-two : (c : tie.After-receive) → (c .receive .result .length ≡ 2) × (length (c .receive .result .content) ≡ 64)
+carries : (c : tie.After-receive) → (c .receive .result .length ≡ 2) × (length (c .receive .result .content) ≡ 64)
 unfolding said stuffed stuffing image shiftStep shiftSteps byteStep run residue fcs fcsBytes checkOf withCheck pointContent imageWritten written
     pointWritten front came alike isRight kept plain contentByte inside within turn verdict moved outcome heard received
-two c = (ap (λ (s : Said). s .length) (hears c), ap (λ (s : Said). length (s .content)) (hears c))
+carries c = (ap (λ (s : Said). s .length) (hears c), ap (λ (s : Said). length (s .content)) (hears c))
 
 slice-aggregate-write-point : tie.Need-slice-aggregate-write-point
 slice-aggregate-write-point c = search needs
@@ -49,10 +49,10 @@ write-point-requires : tie.Need-write-point-requires
 write-point-requires c κs = search needs
 
 expect-requires : tie.Need-expect-requires
-expect-requires c κs = eq-eqb (c .before .write-point .result .count) 6 (six (c .before))
+expect-requires c κs = eq-eqb (c .before .write-point .result .count) 6 (counts (c .before))
 
 array-share-prefix-out : tie.Need-array-share-prefix-out
-array-share-prefix-out c = omega (arith, six (c .before .before), c .before .before .write-point .kept)
+array-share-prefix-out c = omega (arith, counts (c .before .before), c .before .before .write-point .kept)
 
 slice-aggregate-print : tie.Need-slice-aggregate-print
 slice-aggregate-print c = sym (length-take-le _ _ (array-share-prefix-out (c .before)))
@@ -73,10 +73,10 @@ receive-requires : tie.Need-receive-requires
 receive-requires c κs = search needs
 
 expect-requires-2 : tie.Need-expect-requires-2
-expect-requires-2 c κs = eq-eqb (c .before .receive .result .length) 2 (two (c .before) .0)
+expect-requires-2 c κs = eq-eqb (c .before .receive .result .length) 2 (carries (c .before) .0)
 
 array-share-prefix-content : tie.Need-array-share-prefix-content
-array-share-prefix-content c = omega (arith, two (c .before .before))
+array-share-prefix-content c = omega (arith, carries (c .before .before))
 
 slice-aggregate-print-2 : tie.Need-slice-aggregate-print-2
 slice-aggregate-print-2 c = sym (length-take-le _ _ (array-share-prefix-content (c .before)))

@@ -64,9 +64,9 @@ rise-later : {at more : ℕ} (l : List Told) → at ≤ more → Rise more l →
 rise-later [] h r = tt
 rise-later (t ∷ ts) h r = (omega (arith, r .0), r .1)
 
-rise-told : (at : ℕ) (n : Name) (c : List ℕ) (l : List Told) → Rise (at + 1) l → Rise at (note (at + 1) n c ++ l)
+rise-note : (at : ℕ) (n : Name) (c : List ℕ) (l : List Told) → Rise (at + 1) l → Rise at (note (at + 1) n c ++ l)
 unfolding note
-rise-told at n c l r =
+rise-note at n c l r =
     cond-elim (λ (e : List Told). Rise at (e ++ l)) (happened n) (λ t. (omega arith, r)) (λ f. rise-later l (omega arith) r)
 
 rise-tell : (line : Line) (v : View) (at : ℕ) (w : List ℕ) → Rise at (tell line v at w)
@@ -75,7 +75,7 @@ rise-tell line v at [] = tt
 rise-tell line v at (b ∷ bs) =
     let t = turns line v b in
     let o = outcome (checkOn line) (v .kept) t in
-    rise-told at (named (o .event)) (take (o .length) (v .kept)) (tell line (next v t) (at + 1) bs) (rise-tell line (next v t) (at + 1) bs)
+    rise-note at (named (o .event)) (take (o .length) (v .kept)) (tell line (next v t) (at + 1) bs) (rise-tell line (next v t) (at + 1) bs)
 
 -- ---- an image that stands is told
 
@@ -117,21 +117,25 @@ stands-told line good stream v place content s =
 
 -- ---- demand 3
 
-pub demand-three : {line : Line} {s : Receiver} {stream : List ℕ} {all : List Told}
-    → IsFresh line s → Hearing stream s 0 all → Lists line stream all
-demand-three {line} {s} {stream} fr h =
+-- by the statements of its calls, a hearing tells what the bytes tell one by one from outside a frame on
+by-bytes : {line : Line} {s : Receiver} {stream : List ℕ} {all : List Told}
+    → IsFresh line s → Hearing stream s 0 all → all ≡ tell line outside 0 stream
+by-bytes {line} {stream} fr h =
     let b = fresh-begins fr in
-    let e : _ ≡ tell line outside 0 stream = hearing-tells (b .good) stream (b .fit) h ∙ ap (λ (v : View). tell line v 0 stream) (b .nowhere) in
-    subst⁻¹ (Lists line stream) e
+    hearing-tells (b .good) stream (b .fit) h ∙ ap (λ (v : View). tell line v 0 stream) (b .nowhere)
+
+pub hearing-lists : {line : Line} {s : Receiver} {stream : List ℕ} {all : List Told}
+    → IsFresh line s → Hearing stream s 0 all → Lists line stream all
+hearing-lists {line} {stream} fr h =
+    let good = fresh-begins fr .good in
+    subst⁻¹ (Lists line stream) (by-bytes fr h)
     (record {
       rise = rise-tell line outside 0 stream;
-      each = stands-told line (b .good) stream outside;
-      only = tell-stands line (b .good) stream [] outside tt;
+      each = stands-told line good stream outside;
+      only = tell-stands line good stream [] outside tt;
     })
 
 -- the whole list of events with their places depends on the stream only, not on the cuts
-pub cuts-free : {line : Line} {s : Receiver} {stream : List ℕ} {all others : List Told}
-    → IsFresh line s → Hearing stream s 0 all → Hearing stream s 0 others → all ≡ others
-cuts-free {stream} fr h k =
-    let b = fresh-begins fr in
-    hearing-tells (b .good) stream (b .fit) h ∙ sym (hearing-tells (b .good) stream (b .fit) k)
+pub cuts-free : {line : Line} {s r : Receiver} {stream : List ℕ} {all others : List Told}
+    → IsFresh line s → Hearing stream s 0 all → IsFresh line r → Hearing stream r 0 others → all ≡ others
+cuts-free fr h gr k = by-bytes fr h ∙ sym (by-bytes gr k)

@@ -24,7 +24,7 @@ use Rattle.link.specs.Hearing.{Told, toldAt, IsFresh, Hearing}
 use Rattle.link.specs.Listing.{Stands, Says, onPoint, onAddressed, IsImage}
 use Rattle.link.proofs.Laws.Frame.{length-withCheck, length-point, length-addressed}
 use Rattle.link.proofs.Laws.Writing.{by-table}
-use Rattle.link.proofs.Laws.Demand.{demand-three}
+use Rattle.link.proofs.Laws.Demand.{hearing-lists}
 
 -- ---- the crew's side
 
@@ -75,7 +75,7 @@ pub point-listed : (r : Counted) (identifier command : ℕ) («data» out out′
 unfolding pointWritten pointContent
 point-listed r identifier command «data» out out′ before rest says none fr h =
     let front = identifier ∷ command ∷ «data» in
-    demand-three fr h .each (length before + r .count) front
+    hearing-lists fr h .each (length before + r .count) front
     (wrote-stands Point front «data» before rest (wrote false «data» (pointContent identifier command «data») out r says none)
     (length-point identifier command «data») tt)
 
@@ -89,7 +89,7 @@ pub addressed-listed : (r : Counted) (station address identifier command : ℕ) 
 unfolding addressedWritten addressedContent withCheck
 addressed-listed r station address identifier command «data» out out′ before rest says none taken fr h =
     let front = address ∷ identifier ∷ command ∷ «data» in
-    demand-three fr h .each (length before + r .count) front
+    hearing-lists fr h .each (length before + r .count) front
     (wrote-stands (Addressed station) front «data» before rest
     (wrote (isNever address) «data» (addressedContent address identifier command «data») out r says none)
     (length-addressed address identifier command «data») taken)
@@ -111,7 +111,7 @@ says (Addressed station) (address ∷ identifier ∷ command ∷ «data») least
 pub listed-image : {line : Line} {s : Receiver} {stream : List ℕ} {all : List Told} → IsFresh line s → Hearing stream s 0 all
     → (place : ℕ) (content : List ℕ) → List·Memᴰ (toldAt place FRAME content) all → IsImage line stream place content
 listed-image {line} fr h place content m =
-    let s = demand-three fr h .only place content m in
+    let s = hearing-lists fr h .only place content m in
     record {
       written = checked line content;
       says = says line content (omega (arith, s .least, length-withCheck (checkOn line) content));
