@@ -1,7 +1,15 @@
--- The events by the paper's names. 01, How the receiver moves. Assumes nothing.
-use mathlib.Core.Bool.{Bool, true, false}
+-- The events by the paper's names, and which of them a stop byte tells. 01, How the receiver moves. Assumes nothing.
+use Prim.Native.Nat.{ℕ, _-_}
+use mathlib.Core.Bool.{Bool, true, false, cond}
+use mathlib.Core.List.{List}
+use lib.Dec.{ltb}
+use lib.ListN.{length}
 use Rattle.link.specs.declared.event.Event.{Event}
 use Rattle.link.specs.declared.event.Event.the-variants.{None, Frame, Check, Short, Long, Pair, Addr}
+use Rattle.link.specs.declared.event.Verdict.{Verdict}
+use Rattle.link.specs.declared.frame.Check as frame
+use Rattle.link.specs.Limits.{leastContent}
+use Rattle.link.specs.Frame.{checkLength, isRight}
 
 pub data Name : Type 0 where
   NONE FRAME CHECK SHORT LONG PAIR ADDR : Name
@@ -24,3 +32,20 @@ happened SHORT = true
 happened LONG = true
 happened PAIR = true
 happened ADDR = true
+
+-- an event, and how many bytes of the content so far it carries
+abbrev pub telling : Event → ℕ → Verdict
+telling event length = record { event = event; length = length }
+
+abbrev pub silent : Verdict
+silent = telling None 0
+
+-- rule 1: fewer than 4 content bytes
+abbrev pub tooShort : List ℕ → Bool
+tooShort content = ltb (length content) leastContent
+
+-- they are SHORT, otherwise a wrong check is CHECK, otherwise FRAME; the last two carry what stands before the check
+unfoldable pub verdict : frame.Check → List ℕ → Verdict
+verdict check content =
+    cond (tooShort content) (telling Short 0)
+    (telling (cond (isRight check content) Frame Check) (length content - checkLength check))

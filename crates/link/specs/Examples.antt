@@ -1,14 +1,16 @@
--- The worked examples of document 01 that are marked P, as rows of one table. The claim is that each holds; `proofs/Laws/Examples`
--- proves it. 01, Bench examples. Assumes nothing.
+-- The worked examples of document 01 that are marked P, and some more of the receiver, as rows of one table. The claim is that each
+-- holds; `proofs/Laws/Examples` proves it. 01, Bench examples. Assumes nothing.
 use Prim.Native.Nat.{ℕ}
 use mathlib.Core.Path.{_≡_}
-use mathlib.Core.List.{List, [], _∷_}
+use mathlib.Core.Bool.{true}
+use mathlib.Core.List.{List, [], _∷_, _++_}
 use Rattle.link.specs.Stuffing.{stuffing}
 use Rattle.link.specs.Image.{image}
+use Rattle.link.specs.declared.frame.Check.{Check}
 use Rattle.link.specs.declared.frame.Check.the-variants.{Fcs, Sum}
 use Rattle.link.specs.declared.line.Line.{Line}
 use Rattle.link.specs.declared.line.Line.the-variants.{Point, Addressed}
-use Rattle.link.specs.Frame.{withCheck, pointContent, addressedContent}
+use Rattle.link.specs.Frame.{withCheck, isRight, pointContent, addressedContent}
 use Rattle.link.specs.Events.{Name, FRAME, CHECK, SHORT, LONG, PAIR, ADDR}
 use Rattle.link.specs.Receiving.{fresh, received}
 use Rattle.link.specs.Hearing.{toldAt, tells}
@@ -19,6 +21,7 @@ pub data Example : Type 0 where
   pointImage : (identifier command : ℕ) («data» printed : List ℕ) → Example
   addressedImage : (address identifier command : ℕ) («data» printed : List ℕ) → Example
   stuffs : (content printed : List ℕ) → Example
+  rightCheck : (check : Check) (content : List ℕ) → Example
   -- to a fresh receiver the stream tells this first
   hears : (line : Line) (stream : List ℕ) (place : ℕ) (event : Name) (content : List ℕ) → Example
 
@@ -26,22 +29,20 @@ abbrev pub Holds : Example → Type 0
 Holds (pointImage identifier command «data» printed) = image (pointContent identifier command «data») ≡ printed
 Holds (addressedImage address identifier command «data» printed) = image (addressedContent address identifier command «data») ≡ printed
 Holds (stuffs content printed) = stuffing content ≡ printed
+Holds (rightCheck check content) = isRight check content ≡ true
 Holds (hears line stream place event content) = tells 0 (received (fresh line) stream) ≡ toldAt place event content ∷ []
 
 abbrev pub EachHolds : List Example → Type 0
 EachHolds [] = Unit {0}
 EachHolds (e ∷ es) = Holds e × EachHolds es
 
--- the master's line, and contents on both lines whose data are one byte again and again: 62 bytes before the check make 64 on the
--- point line, 63 on the addressed line
 abbrev master : Line
 master = Addressed 0x00
 
-abbrev pointFront : ℕ → ℕ → List ℕ
-pointFront count byte = replicate count byte
-
-abbrev addressedFront : ℕ → ℕ → List ℕ
-addressedFront count byte = 0x00 ∷ replicate count byte
+-- a content byte again and again: on the point line 62 of them before the check make a content of 64, on the addressed line 62 behind the
+-- address
+abbrev again : ℕ → ℕ → List ℕ
+again count byte = replicate count byte
 
 abbrev pub examples : List Example
 examples =
@@ -59,6 +60,7 @@ examples =
     ∷ stuffs (0xFD ∷ 0xFE ∷ 0xFF ∷ []) (0xFF ∷ 0x02 ∷ 0xFF ∷ 0x01 ∷ 0xFF ∷ 0x00 ∷ [])
     -- P7: SHORT, though its check is right
     ∷ hears Point (0xFD ∷ 0x00 ∷ 0x00 ∷ 0xFE ∷ []) 4 SHORT []
+    ∷ rightCheck Fcs (0x00 ∷ 0x00 ∷ [])
     -- P8: PAIR at the third byte
     ∷ hears Point (0xFD ∷ 0xFF ∷ 0xFE ∷ []) 3 PAIR []
     -- P9: ADDR at the second byte
@@ -70,14 +72,22 @@ examples =
     -- 7F reaches every reader, and not the master
     ∷ hears (Addressed 0x05) (0xFD ∷ 0x7F ∷ 0x01 ∷ 0x10 ∷ 0x90 ∷ 0xFE ∷ []) 6 FRAME (0x7F ∷ 0x01 ∷ 0x10 ∷ [])
     ∷ hears master (0xFD ∷ 0x7F ∷ []) 2 ADDR []
+    -- FF is no address, and waits for no partner there; FE is a stop there; a wrong sum
+    ∷ hears master (0xFD ∷ 0xFF ∷ []) 2 ADDR []
+    ∷ hears master (0xFD ∷ 0xFE ∷ []) 2 SHORT []
+    ∷ hears master (0xFD ∷ 0x00 ∷ 0x01 ∷ 0x10 ∷ 0x12 ∷ 0xFE ∷ []) 6 CHECK (0x00 ∷ 0x01 ∷ 0x10 ∷ [])
     -- content 64 passes, plain and stuffed
-    ∷ hears Point (image (withCheck Fcs (pointFront 62 0x11))) 66 FRAME (pointFront 62 0x11)
-    ∷ hears Point (image (withCheck Fcs (pointFront 62 0xFF))) 128 FRAME (pointFront 62 0xFF)
-    ∷ hears master (image (withCheck Sum (addressedFront 62 0x11))) 66 FRAME (addressedFront 62 0x11)
-    ∷ hears master (image (withCheck Sum (addressedFront 62 0xFF))) 128 FRAME (addressedFront 62 0xFF)
+    ∷ hears Point (image (withCheck Fcs (again 62 0x11))) 66 FRAME (again 62 0x11)
+    ∷ hears Point (image (withCheck Fcs (again 62 0xFF))) 128 FRAME (again 62 0xFF)
+    ∷ hears master (image (withCheck Sum (0x00 ∷ again 62 0x11))) 66 FRAME (0x00 ∷ again 62 0x11)
+    ∷ hears master (image (withCheck Sum (0x00 ∷ again 62 0xFF))) 128 FRAME (0x00 ∷ again 62 0xFF)
     -- content 65 is LONG, at the last wire byte of the 65th
-    ∷ hears Point (image (withCheck Fcs (pointFront 63 0x11))) 66 LONG []
-    ∷ hears Point (image (withCheck Fcs (pointFront 63 0xFF))) 129 LONG []
-    ∷ hears master (image (withCheck Sum (addressedFront 63 0x11))) 66 LONG []
-    ∷ hears master (image (withCheck Sum (addressedFront 63 0xFF))) 129 LONG []
+    ∷ hears Point (image (withCheck Fcs (again 63 0x11))) 66 LONG []
+    ∷ hears Point (image (withCheck Fcs (again 63 0xFF))) 129 LONG []
+    ∷ hears master (image (withCheck Sum (0x00 ∷ again 63 0x11))) 66 LONG []
+    ∷ hears master (image (withCheck Sum (0x00 ∷ again 63 0xFF))) 129 LONG []
+    -- also where the 65th is itself stuffed; without a partner it is PAIR
+    ∷ hears Point (0xFD ∷ again 64 0x11 ++ (0xFF ∷ 0x00 ∷ [])) 67 LONG []
+    ∷ hears master (0xFD ∷ 0x00 ∷ again 63 0x11 ++ (0xFF ∷ 0x00 ∷ [])) 67 LONG []
+    ∷ hears Point (0xFD ∷ again 64 0x11 ++ (0xFF ∷ 0xFE ∷ [])) 67 PAIR []
     ∷ []

@@ -13,7 +13,7 @@ use Rattle.link.specs.declared.receiver.Heard.{Heard}
 use Rattle.link.specs.Events.{Name, happened}
 use Rattle.link.specs.Receiving.{fresh, made, freshMade, Said, saying, received}
 
--- an event with its place, the number of its byte in the stream (the first byte is 1), and its content
+-- an event with its place, the number of its byte in the stream (the first byte is 1), and its content without check
 pub record Told : Type 0 where
   pub place : ℕ
   pub event : Name

@@ -10,12 +10,13 @@ pub mod Image
 pub mod Fcs
 pub mod Sum
 pub mod Address
-pub mod Line
 pub mod Frame
+pub mod Line
 pub mod Refusals
 pub mod Writing
 pub mod Events
 pub mod Turning
+pub mod Rules
 pub mod Receiving
 pub mod Hearing
 pub mod Listing

@@ -20,10 +20,10 @@ checkOn (Addressed station) = Sum
 abbrev pub checked : Line → List ℕ → List ℕ
 checked line front = withCheck (checkOn line) front
 
--- on the addressed line a receiver is that of a station
-abbrev pub mayStand : Line → Bool
-mayStand Point = true
-mayStand (Addressed station) = isStation station
+-- on the addressed line a receiver is one of a station
+abbrev pub hasStation : Line → Bool
+hasStation Point = true
+hasStation (Addressed station) = isStation station
 
 -- on the addressed line a content begins with an address, and this station takes it; the point line, and what has no byte yet, has no
 -- address

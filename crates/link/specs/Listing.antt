@@ -1,28 +1,32 @@
--- Demand 3: which frames a hearing of a stream has to tell. The rule that crew and desk signed: a frame counts when its complete wire
--- image stands in the stream, and otherwise it does not. Built from images, checks and addresses alone. Assumes nothing.
+-- Demand 3: which frames a hearing of a stream has to tell. README has the rule that crew and desk signed: a frame counts when its
+-- complete wire image stands in the stream, and otherwise it does not. Built from images, checks and addresses alone.
+-- 01, How much each call must say, names it among the demands. Assumes nothing.
 use Prim.Native.Nat.{ℕ, _+_, _≤_, _<_}
 use mathlib.Core.Path.{_≡_}
+use mathlib.Core.Bool.{true}
 use mathlib.Core.List.{List, [], _∷_, _++_, List·Memᴰ}
 use lib.ListN.{length}
 use Rattle.link.specs.declared.line.Line.{Line}
 use Rattle.link.specs.declared.line.Line.the-variants.{Point, Addressed}
 use Rattle.link.specs.Limits.{leastContent, mostContent}
+use Rattle.link.specs.Address.{takes}
 use Rattle.link.specs.Image.{image}
 use Rattle.link.specs.Frame.{pointContent, addressedContent}
 use Rattle.link.specs.Line.{checked, Taken}
+use Rattle.link.specs.Writing.{After, putting, pointWritten, addressedWritten}
 use Rattle.link.specs.Events.{FRAME}
 use Rattle.link.specs.Hearing.{Told, toldAt}
 
--- The complete wire image of this content, with its check behind it, stands in the stream and ends at this place. With its check it has
--- 4 to 64 bytes, and on the addressed line its address is one that this station takes.
-pub record Stands (line : Line) (stream : List ℕ) (place : ℕ) (content : List ℕ) : Type 0 where
+-- The complete wire image of a content stands in the stream and ends at this place. The content is this front with its check behind it;
+-- it has 4 to 64 bytes, and on the addressed line its address is one that this station takes.
+pub record Stands (line : Line) (stream : List ℕ) (place : ℕ) (front : List ℕ) : Type 0 where
   pub before : List ℕ
   pub after : List ℕ
-  pub split : stream ≡ before ++ (image (checked line content) ++ after)
-  pub ends : place ≡ length before + length (image (checked line content))
-  pub least : leastContent ≤ length (checked line content)
-  pub most : length (checked line content) ≤ mostContent
-  pub taken : Taken line (checked line content)
+  pub split : stream ≡ before ++ (image (checked line front) ++ after)
+  pub ends : place ≡ length before + length (image (checked line front))
+  pub least : leastContent ≤ length (checked line front)
+  pub most : length (checked line front) ≤ mostContent
+  pub address : Taken line (checked line front)
 
 -- places strictly rise, from behind a place on
 abbrev pub Rise : ℕ → List Told → Type 0
@@ -32,22 +36,25 @@ Rise before (t ∷ ts) = (before < t .place) × Rise (t .place) ts
 -- the FRAMEs told are exactly those that stand in the stream, each once, in stream order
 pub record Lists (line : Line) (stream : List ℕ) (all : List Told) : Type 0 where
   pub rise : Rise 0 all
-  pub each : (place : ℕ) (content : List ℕ) → Stands line stream place content → List·Memᴰ (toldAt place FRAME content) all
-  pub only : (place : ℕ) (content : List ℕ) → List·Memᴰ (toldAt place FRAME content) all → Stands line stream place content
+  pub each : (place : ℕ) (front : List ℕ) → Stands line stream place front → List·Memᴰ (toldAt place FRAME front) all
+  pub only : (place : ℕ) (front : List ℕ) → List·Memᴰ (toldAt place FRAME front) all → Stands line stream place front
 
--- the identifier, command and data of a frame on this line, as its content lists them, and the content with its check as the line's
--- writer writes it
-pub data Says : Line → List ℕ → List ℕ → Type 0 where
+-- where there is room, a writer that this is asked of writes the image of this content
+abbrev pub Writes : (List ℕ → After) → List ℕ → Type 0
+Writes writer content = (out : List ℕ) → length (image content) ≤ length out → writer out ≡ putting content out
+
+-- the identifier, command and data that a frame's front lists, on the addressed line with the address before them, and that the line's
+-- writer, asked to write these, writes the image of this content
+pub data Fields : Line → List ℕ → List ℕ → Type 0 where
   onPoint : (identifier command : ℕ) («data» : List ℕ)
-      → Says Point (identifier ∷ command ∷ «data») (pointContent identifier command «data»)
+      → Writes (pointWritten identifier command «data») (pointContent identifier command «data»)
+      → Fields Point (identifier ∷ command ∷ «data») (pointContent identifier command «data»)
   onAddressed : {station : ℕ} (address identifier command : ℕ) («data» : List ℕ)
-      → Says (Addressed station) (address ∷ identifier ∷ command ∷ «data») (addressedContent address identifier command «data»)
+      → takes station address ≡ true
+      → Writes (addressedWritten address identifier command «data») (addressedContent address identifier command «data»)
+      → Fields (Addressed station) (address ∷ identifier ∷ command ∷ «data») (addressedContent address identifier command «data»)
 
--- the image of what the content says stands in the stream, byte for byte, and ends at this place
-pub record IsImage (line : Line) (stream : List ℕ) (place : ℕ) (content : List ℕ) : Type 0 where
-  pub written : List ℕ
-  pub says : Says line content written
-  pub before : List ℕ
-  pub after : List ℕ
-  pub split : stream ≡ before ++ (image written ++ after)
-  pub ends : place ≡ length before + length (image written)
+-- what stands in the stream is the image that the writer writes of what the front lists
+pub record IsImage (line : Line) (stream : List ℕ) (place : ℕ) (front : List ℕ) : Type 0 where
+  pub stands : Stands line stream place front
+  pub fields : Fields line front (checked line front)

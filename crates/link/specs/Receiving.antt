@@ -20,10 +20,10 @@ use Rattle.link.specs.declared.receiver.Fresh.{Fresh}
 use Rattle.link.specs.declared.receiver.Heard.{Heard}
 use Rattle.link.specs.Limits.{mostContent}
 use Rattle.link.specs.Address.{isStation}
-use Rattle.link.specs.Line.{checkOn, mayStand}
+use Rattle.link.specs.Line.{checkOn, hasStation}
 use Rattle.link.specs.Refusals.{number}
-use Rattle.link.specs.Events.{Name, named}
-use Rattle.link.specs.Turning.{turn, verdict}
+use Rattle.link.specs.Events.{Name, named, telling, silent, verdict}
+use Rattle.link.specs.Turning.{turn}
 
 abbrev pub being : Line → Phase → ℕ → List ℕ → Receiver
 being line phase count content = record { line = line; phase = phase; count = count; content = content }
@@ -51,6 +51,13 @@ freshMade station = record { refusal = cond (isStation station) 0 (number BadAdd
 
 -- ---- one byte
 
+-- the content so far
+abbrev pub soFar : Receiver → List ℕ
+soFar s = take (s .count) (s .content)
+
+abbrev pub turnAt : Receiver → ℕ → Turn
+turnAt s b = turn (s .line) (s .phase) (s .count) b
+
 -- the receiver behind a byte; after each event it is outside a frame
 unfoldable pub moved : Receiver → Turn → Receiver
 moved s Rest = s
@@ -60,17 +67,14 @@ moved s (Keep b) = being (s .line) Inside (s .count + 1) (set (s .content) (s .c
 moved s Stop = outside (s .line) (s .content)
 moved s (Tell why) = outside (s .line) (s .content)
 
--- whether there is an event
-abbrev pub ends : Turn → Bool
-ends Rest = false
-ends Begin = false
-ends Wait = false
-ends (Keep b) = false
-ends Stop = true
-ends (Tell why) = true
-
-abbrev pub silent : Verdict
-silent = record { event = None; length = 0 }
+-- whether a turn has an event
+abbrev pub hasEvent : Turn → Bool
+hasEvent Rest = false
+hasEvent Begin = false
+hasEvent Wait = false
+hasEvent (Keep b) = false
+hasEvent Stop = true
+hasEvent (Tell why) = true
 
 -- what a turn tells behind this content so far: the event, and how many bytes of the content it carries
 unfoldable pub outcome : Check → List ℕ → Turn → Verdict
@@ -79,7 +83,10 @@ outcome check content Begin = silent
 outcome check content Wait = silent
 outcome check content (Keep b) = silent
 outcome check content Stop = verdict check content
-outcome check content (Tell why) = record { event = why; length = 0 }
+outcome check content (Tell why) = telling why 0
+
+abbrev pub outcomeAt : Receiver → Turn → Verdict
+outcomeAt s t = outcome (checkOn (s .line)) (soFar s) t
 
 -- ---- one call
 
@@ -103,19 +110,18 @@ saying r =
       taken = r .taken;
     }
 
--- an answer that is no refusal: the event's content stands in front of what the receiver kept
-abbrev pub telling : Receiver → Verdict → ℕ → Said
-telling s v taken =
+-- an answer that is no refusal: the event's content is the front part of what the receiver kept
+abbrev pub answering : Receiver → Verdict → ℕ → Said
+answering s v taken =
     record { refusal = 0; receiver = s; event = named (v .event); content = s .content; length = v .length; taken = taken }
 
 -- the bytes one by one up to the first event, with a number of bytes taken before; without an event, all of them
 unfoldable pub heard : ℕ → Receiver → List ℕ → Said
-heard taken s [] = telling s silent taken
+heard taken s [] = answering s silent taken
 heard taken s (b ∷ bs) =
-    let t = turn (s .line) (s .phase) (s .count) b in
+    let t = turnAt s b in
     let on = heard (taken + 1) (moved s t) bs in
-    let v = outcome (checkOn (s .line)) (take (s .count) (s .content)) t in
-    cond (ends t) (telling (moved s t) v (taken + 1)) on
+    cond (hasEvent t) (answering (moved s t) (outcomeAt s t) (taken + 1)) on
 
 -- event none, count 0, state as it came
 abbrev pub refusedState : Receiver → Said
@@ -123,7 +129,7 @@ refusedState s = record { refusal = number BadState; receiver = s; event = named
 
 -- row 4: a count over 64, or on the addressed line an address no station may have, is BadState
 abbrev pub badState : Receiver → Bool
-badState s = ltb mostContent (s .count) || not (mayStand (s .line))
+badState s = ltb mostContent (s .count) || not (hasStation (s .line))
 
 unfoldable pub received : Receiver → List ℕ → Said
 received s piece = cond (badState s) (refusedState s) (heard 0 s piece)

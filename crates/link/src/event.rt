@@ -4,7 +4,7 @@ use crate::frame::check_length;
 use crate::frame::is_right;
 use crate::limits::LEAST_CONTENT;
 ghost use mathlib.Core.Path.{_≡_};
-ghost use Rattle.link.specs.Turning.{verdict};
+ghost use Rattle.link.specs.Events.{verdict};
 
 pub enum Event {
     None,
@@ -16,7 +16,7 @@ pub enum Event {
     Addr,
 }
 
-// The event of a stop byte, and how many bytes of the content it carries: for a frame, its check right or wrong, all before the check.
+// An event, and how many bytes of the content so far it carries: all before the check for a frame, its check right or wrong.
 pub(crate) struct Verdict {
     pub(crate) event: Event,
     pub(crate) length: usize,
@@ -39,14 +39,10 @@ pub(crate) fn at_stop(check: Check, content: &[u8]) -> Verdict
         };
     }
     let length = content.len() - check_length(check);
-    if is_right(check, content, length) {
-        return Verdict {
-            event: Event::Frame,
-            length,
-        };
-    }
-    Verdict {
-        event: Event::Check,
-        length,
-    }
+    let event = if is_right(check, content, length) {
+        Event::Frame
+    } else {
+        Event::Check
+    };
+    Verdict { event, length }
 }

@@ -4,7 +4,7 @@ pub mod fcs;
 mod frame;
 pub mod image;
 mod laying;
-mod limits;
+pub mod limits;
 pub mod line;
 pub mod phase;
 pub mod receiver;

@@ -2,7 +2,7 @@
 use crate::frame::Check;
 ghost use mathlib.Core.Path.{_≡_};
 ghost use Rattle.link.specs.Address.{isStation, takes as takesOf};
-ghost use Rattle.link.specs.Line.{checkOn, mayStand as mayStandOf};
+ghost use Rattle.link.specs.Line.{checkOn, hasStation as hasStationOf};
 
 const MASTER: u8 = 0x00;
 
@@ -49,9 +49,9 @@ pub(crate) fn check_on(line: Line) -> Check
     }
 }
 
-// Whether a receiver may stand on this line.
-pub(crate) fn may_stand(line: Line) -> bool
-    ensures { λ r. ⌜ r ≡ mayStandOf line ⌝ }
+// Whether the line has a station where it wants one.
+pub(crate) fn has_station(line: Line) -> bool
+    ensures { λ r. ⌜ r ≡ hasStationOf line ⌝ }
 {
     match line {
         Line::Point => true,

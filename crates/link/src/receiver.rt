@@ -6,8 +6,8 @@ use crate::event::at_stop;
 use crate::limits::MOST_CONTENT;
 use crate::line::Line;
 use crate::line::check_on;
+use crate::line::has_station;
 use crate::line::is_station;
-use crate::line::may_stand;
 use crate::phase::Phase;
 use crate::refusal::Refusal;
 use crate::turn::Turn;
@@ -15,7 +15,7 @@ use crate::turn::at_byte;
 ghost use mathlib.Core.Path.{_≡_};
 ghost use Prim.Native.Nat.{_≤_};
 ghost use Rattle.link.specs.Limits.{mostContent};
-ghost use Rattle.link.specs.Receiving.{fresh, outside as outsideOf, made, freshMade, saying, telling, heard, refusedState, received};
+ghost use Rattle.link.specs.Receiving.{fresh as freshOf, outside as outsideOf, made, freshMade, saying, answering, heard, refusedState, received};
 
 // A receiver between two calls: its line, where it is, and the first `count` bytes of `content` as the content so far.
 pub struct Receiver {
@@ -25,7 +25,7 @@ pub struct Receiver {
     pub content: [u8; MOST_CONTENT],
 }
 
-// A receiver for a station, and why there is none where the address was refused.
+// A receiver for a station. With a refusal comes one that refuses every call.
 pub struct Fresh {
     pub refusal: Refusal,
     pub receiver: Receiver,
@@ -45,31 +45,27 @@ pub struct Heard {
 impl Receiver {
     // A fresh receiver of the point line.
     pub fn point() -> Receiver
-        ensures { λ r. ⌜ r ≡ fresh Line.Point ⌝ }
+        ensures { λ r. ⌜ r ≡ freshOf Line.Point ⌝ }
     {
-        Receiver::on(Line::Point)
+        Receiver::fresh(Line::Point)
     }
 
     // A fresh receiver of the addressed line for a station: 00 the master, else a reader's own address. Refuses 7F and FD..FF
-    // (BadAddress); the receiver that comes with the refusal refuses every call.
+    // (BadAddress).
     pub fn addressed(station: u8) -> Fresh
         ensures { λ r. ⌜ made r ≡ freshMade station ⌝ }
     {
-        let receiver = Receiver::on(Line::Addressed(station));
-        if is_station(station) {
-            return Fresh {
-                refusal: Refusal::None,
-                receiver,
-            };
-        }
-        Fresh {
-            refusal: Refusal::BadAddress,
-            receiver,
-        }
+        let receiver = Receiver::fresh(Line::Addressed(station));
+        let refusal = if is_station(station) {
+            Refusal::None
+        } else {
+            Refusal::BadAddress
+        };
+        Fresh { refusal, receiver }
     }
 
-    fn on(line: Line) -> Receiver
-        ensures { λ r. ⌜ r ≡ fresh line ⌝ }
+    fn fresh(line: Line) -> Receiver
+        ensures { λ r. ⌜ r ≡ freshOf line ⌝ }
     {
         Receiver::outside(line, [0u8; MOST_CONTENT])
     }
@@ -95,7 +91,7 @@ impl Receiver {
         if self.count > MOST_CONTENT {
             return Heard::refused(self);
         }
-        if may_stand(line) {
+        if has_station(line) {
             return self.hear(piece);
         }
         Heard::refused(self)
@@ -146,9 +142,9 @@ impl Receiver {
 }
 
 impl Heard {
-    // The receiver after this verdict, with the event's content in front of what it kept.
+    // The answer with this receiver and verdict; the event's content is the front part of what the receiver kept.
     fn told(receiver: Receiver, verdict: Verdict, taken: usize) -> Heard
-        ensures { λ r. ⌜ saying r ≡ telling receiver verdict taken ⌝ }
+        ensures { λ r. ⌜ saying r ≡ answering receiver verdict taken ⌝ }
     {
         let content = receiver.content;
         let event = verdict.event;

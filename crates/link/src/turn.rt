@@ -22,6 +22,7 @@ pub(crate) enum Turn {
     Tell(Event),
 }
 
+// FD before all else; then by where the receiver is.
 pub(crate) fn at_byte(line: Line, phase: Phase, count: usize, byte: u8) -> Turn
     ensures { λ r. ⌜ r ≡ turn line phase count byte ⌝ }
 {

@@ -1,6 +1,6 @@
 -- Each byte is just one of the four kinds of address, and what follows for stations: computed for all bytes by one test.
 -- Assumes nothing.
-use mathlib.Core.Bool.{Bool, true, false, cond, not, _&&_, and-eq-true-iff}
+use mathlib.Core.Bool.{Bool, true, false, cond, not, _&&_, _||_, and-eq-true-iff}
 use mathlib.Core.Path.{_≡_, refl, sym, _∙_}
 use Prim.Native.Nat.{ℕ, _+_, _<_}
 use native.Mathlib.Omega.{arith}
@@ -9,7 +9,7 @@ use lib.ListN.{replicate, getD-replicate}
 use borrow.Author.Tests.{eqb-true, leb-true}
 use Rattle.link.specs.Stuffing.{special}
 use Rattle.link.specs.Address.{isMaster, isBroadcast, isOwn, isNever, isStation, takes}
-use Rattle.link.proofs.Laws.Choice.{cond-elim, or-elim}
+use Rattle.link.proofs.Laws.Choice.{cond-elim, cond-not, or-elim}
 use Rattle.link.proofs.Laws.Stuffing.{plain-is}
 use Rattle.link.proofs.Laws.Table.{lists, entry}
 
@@ -39,6 +39,14 @@ station-is a h =
     agree-same (isStation a) (not (isBroadcast a) && leb a 0xFC)
     (each-byte (λ (b : ℕ). cond (agree (isStation b) (not (isBroadcast b) && leb b 0xFC)) 1 0) refl a h)
 
+-- so what no station may have is broadcast or never an address
+pub station-kinds : (a : ℕ) → a < 0x100 → (why : ℕ) → cond (isStation a) 0 why ≡ cond (isBroadcast a || isNever a) why 0
+station-kinds a h why =
+    rw
+    (agree-same (isStation a) (not (isBroadcast a || isNever a))
+    (each-byte (λ (b : ℕ). cond (agree (isStation b) (not (isBroadcast b || isNever b))) 1 0) refl a h))
+    (cond-not (isBroadcast a || isNever a) 0 why)
+
 -- a station takes no byte that stuffing changes
 own-lt : (a : ℕ) → isOwn a ≡ true → a < 0xFD
 own-lt a =
@@ -49,7 +57,7 @@ own-lt a =
 station-lt : (station : ℕ) → isStation station ≡ true → station < 0xFD
 station-lt station = or-elim (isMaster station) (isOwn station) (λ t. omega (arith, eqb-true station 0x00 t)) (own-lt station)
 
-takes-lt : (station a : ℕ) → isStation station ≡ true → takes station a ≡ true → a < 0xFD
+pub takes-lt : (station a : ℕ) → isStation station ≡ true → takes station a ≡ true → a < 0xFD
 unfolding takes
 takes-lt station a good =
     cond-elim (λ (t : Bool). t ≡ true → a < 0xFD) (isMaster station) (λ m e. omega (arith, eqb-true a 0x00 e))

@@ -1,12 +1,16 @@
 -- A choice, and two tests in one, taken apart.
 -- Assumes nothing.
 use mathlib.Core.Path.{_≡_, refl}
-use mathlib.Core.Bool.{Bool, true, false, cond, _||_, true≢false}
+use mathlib.Core.Bool.{Bool, true, false, cond, not, _||_, true≢false}
 
 -- what holds of the first where the test is true, and of the second where it is false, holds of the choice
 pub cond-elim : {A : Type 0} (P : A → Type 0) (t : Bool) {x y : A} → (t ≡ true → P x) → (t ≡ false → P y) → P (cond t x y)
 cond-elim P true f g = f refl
 cond-elim P false f g = g refl
+
+pub cond-not : {A : Type 0} (t : Bool) (x y : A) → cond (not t) x y ≡ cond t y x
+cond-not true x y = refl
+cond-not false x y = refl
 
 -- what follows from either of two tests follows where one of them is true
 pub or-elim : {P : Type 0} (s t : Bool) → (s ≡ true → P) → (t ≡ true → P) → (s || t) ≡ true → P

@@ -22,17 +22,17 @@ use Rattle.link.specs.Limits.{leastContent}
 use Rattle.link.specs.Address.{isStation}
 use Rattle.link.specs.Image.{image}
 use Rattle.link.specs.Frame.{checkLength, withCheck, front}
-use Rattle.link.specs.Line.{checkOn, checked, mayStand}
+use Rattle.link.specs.Line.{checkOn, checked, hasStation}
 use Rattle.link.specs.Refusals.{number}
-use Rattle.link.specs.Events.{Name, FRAME, happened, named}
-use Rattle.link.specs.Turning.{verdict}
+use Rattle.link.specs.Events.{Name, FRAME, happened, named, telling}
+use Rattle.link.specs.Events.{verdict}
 use Rattle.link.specs.Receiving.{fresh, Made, freshMade, outcome}
 use Rattle.link.specs.Hearing.{Told, toldAt, note, IsFresh, point, addressed, Hearing}
 use Rattle.link.specs.Listing.{Stands, Rise, Lists}
 use Rattle.link.proofs.Laws.Choice.{cond-elim}
 use Rattle.link.proofs.Laws.Right.{front-withCheck, withCheck-right}
 use Rattle.link.proofs.Laws.Fit.{Fit, fresh-fit}
-use Rattle.link.proofs.Laws.View.{View, being, outside, seen, turns, next, entry}
+use Rattle.link.proofs.Laws.View.{View, view, nowhere, seen, turns, next, noted}
 use Rattle.link.proofs.Laws.Cuts.{tell, hearing-tells}
 use Rattle.link.proofs.Laws.Crew.{image-tells}
 use Rattle.link.proofs.Laws.Desk.{tell-stands}
@@ -40,12 +40,12 @@ use Rattle.link.proofs.Laws.Desk.{tell-stands}
 -- ---- a fresh receiver
 
 pub record Begins (line : Line) (s : Receiver) : Type 0 where
-  pub good : mayStand line ≡ true
+  pub good : hasStation line ≡ true
   pub fit : Fit line s
-  pub nowhere : seen s ≡ outside
+  pub nowhere : seen s ≡ nowhere
 
-begins : (line : Line) → mayStand line ≡ true → Begins line (fresh line)
-begins line good = record { good = good; fit = fresh-fit line; nowhere = refl }
+fresh-on : (line : Line) → hasStation line ≡ true → Begins line (fresh line)
+fresh-on line good = record { good = good; fit = fresh-fit line; nowhere = refl }
 
 accepted : (t : Bool) → cond t 0 (number BadAddress) ≡ 0 → t ≡ true
 accepted true e = refl
@@ -53,10 +53,10 @@ accepted false e = absurd (omega arith)
 
 pub fresh-begins : {line : Line} {s : Receiver} → IsFresh line s → Begins line s
 unfolding freshMade
-fresh-begins (point e) = subst⁻¹ (Begins Point) e (begins Point refl)
+fresh-begins (point e) = subst⁻¹ (Begins Point) e (fresh-on Point refl)
 fresh-begins (addressed r {station} says taken) =
     let good = accepted (isStation station) (sym (ap (λ (m : Made). m .refusal) says) ∙ taken) in
-    subst⁻¹ (Begins (Addressed station)) (ap (λ (m : Made). m .receiver) says) (begins (Addressed station) good)
+    subst⁻¹ (Begins (Addressed station)) (ap (λ (m : Made). m .receiver) says) (fresh-on (Addressed station) good)
 
 -- ---- places rise
 
@@ -70,7 +70,7 @@ rise-note at n c l r =
     cond-elim (λ (e : List Told). Rise at (e ++ l)) (happened n) (λ t. (omega arith, r)) (λ f. rise-later l (omega arith) r)
 
 rise-tell : (line : Line) (v : View) (at : ℕ) (w : List ℕ) → Rise at (tell line v at w)
-unfolding tell entry
+unfolding tell noted
 rise-tell line v at [] = tt
 rise-tell line v at (b ∷ bs) =
     let t = turns line v b in
@@ -86,40 +86,40 @@ unfolding tell
 tell-behind line [] l v at x m = subst (λ (n : ℕ). List·Memᴰ x (tell line v n l)) (add-zero at) (m v)
 tell-behind line (b ∷ p) l v at x m =
     let shift : at + suc (length p) ≡ at + 1 + length p = omega arith in
-    Memᴰ·append-right (entry line v (at + 1) (turns line v b))
+    Memᴰ·append-right (noted line v (at + 1) (turns line v b))
     (tell-behind line p l (next v (turns line v b)) (at + 1) x (λ u. subst (λ (n : ℕ). List·Memᴰ x (tell line u n l)) shift (m u)))
 
 right-verdict : (check : Check) (content : List ℕ) → let c = withCheck check content in
-    leastContent ≤ length c → verdict check c ≡ record { event = Frame; length = length c - checkLength check }
+    leastContent ≤ length c → verdict check c ≡ telling Frame (length c - checkLength check)
 unfolding verdict
 right-verdict check content least = rw (le-ltb (length (withCheck check content)) leastContent least, withCheck-right check content)
 
-frame-entry : (line : Line) (content : List ℕ) (place : ℕ) → leastContent ≤ length (checked line content)
-    → entry line (being Inside (checked line content)) place Stop ≡ toldAt place FRAME content ∷ []
-unfolding entry outcome note front
-frame-entry line content place least =
+frame-noted : (line : Line) (content : List ℕ) (place : ℕ) → leastContent ≤ length (checked line content)
+    → noted line (view Inside (checked line content)) place Stop ≡ toldAt place FRAME content ∷ []
+unfolding noted outcome note front
+frame-noted line content place least =
     ap (λ (v : Verdict). note place (named (v .event)) (take (v .length) (checked line content))) (right-verdict (checkOn line) content least)
     ∙ ap (note place FRAME) (front-withCheck (checkOn line) content)
 
-stands-told : (line : Line) → mayStand line ≡ true → (stream : List ℕ) (v : View) (place : ℕ) (content : List ℕ)
+stands-told : (line : Line) → hasStation line ≡ true → (stream : List ℕ) (v : View) (place : ℕ) (content : List ℕ)
     → Stands line stream place content
     → List·Memᴰ (toldAt place FRAME content) (tell line v 0 stream)
 stands-told line good stream v place content s =
     let x = toldAt place FRAME content in
     let c = checked line content in
     let end : 0 + length (s .before) + length (image c) ≡ place = omega (arith, s .ends) in
-    let told : List·Memᴰ x (entry line (being Inside c) (0 + length (s .before) + length (image c)) Stop) =
-    rw (end, frame-entry line content place (s .least)) (List·Memᴰ·head refl) in
+    let told : List·Memᴰ x (noted line (view Inside c) (0 + length (s .before) + length (image c)) Stop) =
+    rw (end, frame-noted line content place (s .least)) (List·Memᴰ·head refl) in
     let here : (u : View) → List·Memᴰ x (tell line u (0 + length (s .before)) (image c ++ s .after)) =
-    λ u. subst⁻¹ (List·Memᴰ x) (image-tells line good u c (s .after) (0 + length (s .before)) (s .most) (s .taken))
-    (Memᴰ·append-left (tell line outside (0 + length (s .before) + length (image c)) (s .after)) told) in
+    λ u. subst⁻¹ (List·Memᴰ x) (image-tells line good u c (s .after) (0 + length (s .before)) (s .most) (s .address))
+    (Memᴰ·append-left (tell line nowhere (0 + length (s .before) + length (image c)) (s .after)) told) in
     subst⁻¹ (λ (w : List ℕ). List·Memᴰ x (tell line v 0 w)) (s .split) (tell-behind line (s .before) (image c ++ s .after) v 0 x here)
 
 -- ---- demand 3
 
 -- by the statements of its calls, a hearing tells what the bytes tell one by one from outside a frame on
 by-bytes : {line : Line} {s : Receiver} {stream : List ℕ} {all : List Told}
-    → IsFresh line s → Hearing stream s 0 all → all ≡ tell line outside 0 stream
+    → IsFresh line s → Hearing stream s 0 all → all ≡ tell line nowhere 0 stream
 by-bytes {line} {stream} fr h =
     let b = fresh-begins fr in
     hearing-tells (b .good) stream (b .fit) h ∙ ap (λ (v : View). tell line v 0 stream) (b .nowhere)
@@ -130,9 +130,9 @@ hearing-lists {line} {stream} fr h =
     let good = fresh-begins fr .good in
     subst⁻¹ (Lists line stream) (by-bytes fr h)
     (record {
-      rise = rise-tell line outside 0 stream;
-      each = stands-told line good stream outside;
-      only = tell-stands line good stream [] outside tt;
+      rise = rise-tell line nowhere 0 stream;
+      each = stands-told line good stream nowhere;
+      only = tell-stands line good stream [] nowhere tt;
     })
 
 -- the whole list of events with their places depends on the stream only, not on the cuts

@@ -2,10 +2,10 @@
 -- where a whole image stands.
 -- Assumes nothing.
 use mathlib.Core.Path.{_≡_, refl, sym, ap, ap₂, subst, _∙_}
-use mathlib.Core.Bool.{true, false, false≢true}
+use mathlib.Core.Bool.{Bool, true, false, true≢false}
 use mathlib.Core.List.{List, [], _∷_, _++_, append-assoc, append-nil, List·Memᴰ, List·Memᴰ·not-nil, List·Memᴰ·append-cases, List·Memᴰ·eq-of-singleton}
 use mathlib.Core.Logic.{⊎-elim}
-use Prim.Native.Nat.{ℕ, zero, suc, _+_, _-_, _≤_, zero-le}
+use Prim.Native.Nat.{ℕ, zero, suc, _+_, _-_, _≤_, _<_, zero-le}
 use native.Mathlib.Omega.{arith}
 use lib.ListN.{length, take, length-append}
 use borrow.Author.Tests.{ltb-false}
@@ -21,9 +21,9 @@ use Rattle.link.specs.Limits.{leastContent, mostContent}
 use Rattle.link.specs.Stuffing.{special, stuffed, stuffing}
 use Rattle.link.specs.Image.{start, stop, image}
 use Rattle.link.specs.Frame.{checkLength, withCheck, front, isRight}
-use Rattle.link.specs.Line.{checkOn, checked, mayStand, Taken}
-use Rattle.link.specs.Events.{Name, FRAME, named, happened}
-use Rattle.link.specs.Turning.{tooShort, verdict}
+use Rattle.link.specs.Line.{checkOn, checked, hasStation, Taken}
+use Rattle.link.specs.Events.{Name, NONE, FRAME, CHECK, SHORT, LONG, PAIR, ADDR, named, happened, telling, tooShort, verdict}
+use Rattle.link.specs.Rules.{Address, Later, ByRule, ignored, begins, stops, address, noAddress, waits, plain, pair, noPair, longPlain, longPair}
 use Rattle.link.specs.Receiving.{outcome}
 use Rattle.link.specs.Hearing.{Told, toldAt, note}
 use Rattle.link.specs.Listing.{Stands}
@@ -31,8 +31,8 @@ use Rattle.link.proofs.Laws.Choice.{cond-elim}
 use Rattle.link.proofs.Laws.Address.{takes-plain}
 use Rattle.link.proofs.Laws.Stuffing.{stuffed-other, stuffed-special}
 use Rattle.link.proofs.Laws.Right.{right-withCheck}
-use Rattle.link.proofs.Laws.Turning.{Whole, Later, Why, begins, rests, stops, waits, keeps, pairs, tells, fault, turn-why}
-use Rattle.link.proofs.Laws.View.{View, being, turns, next, entry}
+use Rattle.link.proofs.Laws.Turning.{turn-rule, address-room}
+use Rattle.link.proofs.Laws.View.{View, view, turns, next, noted}
 use Rattle.link.proofs.Laws.Cuts.{tell}
 
 -- ---- the bytes since the frame's start
@@ -69,16 +69,17 @@ taken-none : (line : Line) → Taken line []
 taken-none Point = tt
 taken-none (Addressed station) = tt
 
-whole-plain : (line : Line) → mayStand line ≡ true → (count b : ℕ) → Whole line count b → special b ≡ false
-whole-plain Point good count b plain = plain
-whole-plain (Addressed station) good zero b taken = takes-plain station b good taken
-whole-plain (Addressed station) good (suc count) b plain = plain
+-- the address is no byte that stuffing changes
+address-plain : (line : Line) → hasStation line ≡ true → (count b : ℕ) → Address line count b true → special b ≡ false
+address-plain Point good count b a = absurd a
+address-plain (Addressed station) good zero b a = takes-plain station b good (a .2)
+address-plain (Addressed station) good (suc count) b a = absurd a
 
--- a content that goes on keeps its address
-taken-on : (line : Line) (k : List ℕ) (b : ℕ) → Taken line k → Whole line (length k) b → Taken line (k ++ (b ∷ []))
-taken-on Point k b taken w = tt
-taken-on (Addressed station) [] b taken w = w
-taken-on (Addressed station) (a ∷ k) b taken w = taken
+-- a content begins with an address that is taken, and goes on with it
+taken-first : (line : Line) (k : List ℕ) (b : ℕ) → Address line (length k) b true → Taken line (k ++ (b ∷ []))
+taken-first Point k b a = absurd a
+taken-first (Addressed station) [] b a = a .2
+taken-first (Addressed station) (x ∷ k) b a = absurd a
 
 taken-later : (line : Line) (k : List ℕ) (b : ℕ) → Taken line k → Later line (length k) → Taken line (k ++ (b ∷ []))
 taken-later Point k b taken l = tt
@@ -94,32 +95,54 @@ wire-more : (k : List ℕ) (b : ℕ) → wire k ++ stuffed b ≡ wire (k ++ (b �
 unfolding stuffing
 wire-more k b = ap (λ (l : List ℕ). start ∷ l) (sym (stuffing-append k (b ∷ []) ∙ ap (λ (l : List ℕ). stuffing k ++ l) (append-nil (stuffed b))))
 
-module _ (line : Line) (good : mayStand line ≡ true) (heard : List ℕ) where
-  trace-next : {phase : Phase} (k : List ℕ) (b : ℕ) {t : Turn} → Why line (length k) b phase t → Trace line heard phase k
-      → let v = next (being phase k) t in
+module _ (line : Line) (good : hasStation line ≡ true) (heard : List ℕ) where
+  -- a byte that stands for itself
+  trace-plain : (k : List ℕ) (b : ℕ) → special b ≡ false → length k < mostContent → Taken line (k ++ (b ∷ [])) → Ends line heard k (wire k)
+      → let l = k ++ (b ∷ []) in
+      Ends line (heard ++ (b ∷ [])) l (wire l)
+  trace-plain k b other room taken e =
+      let l = k ++ (b ∷ []) in
+      ends-more l (wire l) b e (rw (stuffed-other b other) at (wire-more k b)) (simp length-append (omega arith)) taken
+
+  trace-next : {phase : Phase} (k : List ℕ) (b : ℕ) {t : Turn} → ByRule line (length k) b phase t → Trace line heard phase k
+      → let v = next (view phase k) t in
       Trace line (heard ++ (b ∷ [])) (v .phase) (v .kept)
   unfolding next stuffing
+  trace-next k b (ignored f) e = tt
   trace-next k b (begins s) e =
       record { before = heard; split = ap (λ (x : ℕ). heard ++ (x ∷ [])) s; most = zero-le; taken = taken-none line }
-  trace-next k b rests e = tt
   trace-next k b (stops s) e = tt
-  trace-next k b (waits s l) e =
+  trace-next k b (address a) e =
+      trace-plain k b (address-plain line good (length k) b a) (address-room line (length k) b a) (taken-first line k b a) e
+  trace-next k b (noAddress a) e = tt
+  trace-next k b (waits l s) e =
       (ends-more k (wire k ++ (0xFF ∷ [])) b e (ap (λ (x : ℕ). wire k ++ (x ∷ [])) s) (e .most) (e .taken), l)
-  trace-next k b (keeps w room) e =
-      let plain = whole-plain line good (length k) b w in
-      let l = k ++ (b ∷ []) in
-      ends-more l (wire l) b e (rw (stuffed-other b plain) at (wire-more k b)) (simp length-append (omega arith)) (taken-on line k b (e .taken) w)
-  trace-next k b (pairs known room) e =
+  trace-next k b (plain l other room) e = trace-plain k b other room (taken-later line k b (e .taken) l) e
+  trace-next k b (pair known room) e =
       let x = 0xFF - b in
       let l = k ++ (x ∷ []) in
       let back : 0xFF - x ≡ b = omega arith in
-      let pair : stuffed x ≡ 0xFF ∷ b ∷ [] = stuffed-special x (omega arith) (omega arith) ∙ ap (λ (p : ℕ). 0xFF ∷ p ∷ []) back in
+      let stuffs : stuffed x ≡ 0xFF ∷ b ∷ [] = stuffed-special x (omega arith) (omega arith) ∙ ap (λ (p : ℕ). 0xFF ∷ p ∷ []) back in
       ends-more l (wire l) b (e .0)
-      (append-assoc (wire k) (0xFF ∷ []) (b ∷ []) ∙ (rw pair at (wire-more k x)))
+      (append-assoc (wire k) (0xFF ∷ []) (b ∷ []) ∙ (rw stuffs at (wire-more k x)))
       (simp length-append (omega arith)) (taken-later line k x (e .0 .taken) (e .1))
-  trace-next k b (tells f) e = tt
+  trace-next k b (noPair over f) e = tt
+  trace-next k b (longPlain l other full) e = tt
+  trace-next k b (longPair known full) e = tt
 
 -- ---- where a FRAME is told
+
+abbrev isFrame : Name → Bool
+isFrame NONE = false
+isFrame FRAME = true
+isFrame CHECK = false
+isFrame SHORT = false
+isFrame LONG = false
+isFrame PAIR = false
+isFrame ADDR = false
+
+not-frame : {n : Name} → FRAME ≡ n → isFrame n ≡ false → ⊥
+not-frame e f = true≢false (ap isFrame e ∙ f)
 
 -- a stop byte tells FRAME only behind a content that is long enough and whose check is right; it carries what stands before the check
 record IsFrame (check : Check) (k : List ℕ) (v : Verdict) : Type 0 where
@@ -130,10 +153,10 @@ record IsFrame (check : Check) (k : List ℕ) (v : Verdict) : Type 0 where
 verdict-frame : (check : Check) (k : List ℕ) → FRAME ≡ named (verdict check k .event) → IsFrame check k (verdict check k)
 unfolding verdict front
 verdict-frame check k =
-    cond-elim P (tooShort k) (λ t e. let z : _≡_ {A = ℕ} 0 1 = cc in absurd (omega arith))
-    (λ f. cond-elim (λ (n : Event). P (record { event = n; length = length k - checkLength check })) (isRight check k)
+    cond-elim P (tooShort k) (λ t e. absurd (not-frame e refl))
+    (λ f. cond-elim (λ (n : Event). P (telling n (length k - checkLength check))) (isRight check k)
     (λ r e. record { least = ltb-false (length k) leastContent f; whole = right-withCheck check k r; carried = refl })
-    (λ w e. let z : _≡_ {A = ℕ} 0 1 = cc in absurd (omega arith)))
+    (λ w e. absurd (not-frame e refl)))
   where
     P : Verdict → Type 0
     P v = FRAME ≡ named (v .event) → IsFrame check k v
@@ -147,7 +170,7 @@ told-frame {place} {p} {content} {c} n =
     (ap (λ (x : Told). x .place) e, ap (λ (x : Told). x .event) e, ap (λ (x : Told). x .content) e))
     (λ f m. absurd (List·Memᴰ·not-nil m))
 
-module _ (line : Line) (good : mayStand line ≡ true) where
+module _ (line : Line) (good : hasStation line ≡ true) where
   -- the start, the stuffing of a content and a stop are its image
   image-stands : {content k heard : List ℕ} (rest : List ℕ) (b : ℕ) → checked line content ≡ k → leastContent ≤ length k → b ≡ stop
       → Ends line heard k (wire k)
@@ -160,7 +183,7 @@ module _ (line : Line) (good : mayStand line ≡ true) where
       ∙ ap (λ (l : List ℕ). e .before ++ (start ∷ l)) (sym (append-assoc (stuffing k) (stop ∷ []) rest)) in
       let end : length heard + 1 ≡ length (e .before) + length (image k) =
       omega (arith, ap length (e .split), length-append (e .before) (wire k), length-append (stuffing k) (stop ∷ [])) in
-      record { before = e .before; after = rest; split = rw is whole; ends = rw is end; least = rw is least; most = rw is (e .most); taken = rw is (e .taken) }
+      record { before = e .before; after = rest; split = rw is whole; ends = rw is end; least = rw is least; most = rw is (e .most); address = rw is (e .taken) }
 
   stop-stands : (heard k rest : List ℕ) (b : ℕ) → b ≡ stop → Ends line heard k (wire k) → FRAME ≡ named (verdict (checkOn line) k .event)
       → Stands line (heard ++ (b ∷ rest)) (length heard + 1) (take (verdict (checkOn line) k .length) k)
@@ -168,21 +191,24 @@ module _ (line : Line) (good : mayStand line ≡ true) where
       let f = verdict-frame (checkOn line) k frame in
       image-stands rest b (ap (withCheck (checkOn line)) (f .carried) ∙ sym (f .whole)) (f .least) s e
 
-  entry-stands : (heard rest : List ℕ) {phase : Phase} (k : List ℕ) (b place : ℕ) (content : List ℕ) {t : Turn}
-      → Why line (length k) b phase t → Trace line heard phase k
-      → List·Memᴰ (toldAt place FRAME content) (entry line (being phase k) (length heard + 1) t)
+  noted-stands : (heard rest : List ℕ) {phase : Phase} (k : List ℕ) (b place : ℕ) (content : List ℕ) {t : Turn}
+      → ByRule line (length k) b phase t → Trace line heard phase k
+      → List·Memᴰ (toldAt place FRAME content) (noted line (view phase k) (length heard + 1) t)
       → Stands line (heard ++ (b ∷ rest)) place content
-  unfolding entry outcome note
-  entry-stands heard rest k b place content (begins s) e m = absurd (List·Memᴰ·not-nil m)
-  entry-stands heard rest k b place content rests e m = absurd (List·Memᴰ·not-nil m)
-  entry-stands heard rest k b place content (stops s) e m =
+  unfolding noted outcome note
+  noted-stands heard rest k b place front (stops s) e m =
       let f = told-frame (named (verdict (checkOn line) k .event)) m in
       rw (f .0, f .2) (stop-stands heard k rest b s e (f .1))
-  entry-stands heard rest k b place content (waits s l) e m = absurd (List·Memᴰ·not-nil m)
-  entry-stands heard rest k b place content (keeps w room) e m = absurd (List·Memᴰ·not-nil m)
-  entry-stands heard rest k b place content (pairs known room) e m = absurd (List·Memᴰ·not-nil m)
-  entry-stands heard rest k b place content (tells {why} f) e m =
-      absurd (false≢true (ap fault (told-frame (named why) m .1) ∙ f))
+  noted-stands heard rest k b place front (noAddress a) e m = absurd (not-frame (told-frame ADDR m .1) refl)
+  noted-stands heard rest k b place front (noPair over f) e m = absurd (not-frame (told-frame PAIR m .1) refl)
+  noted-stands heard rest k b place front (longPlain l other full) e m = absurd (not-frame (told-frame LONG m .1) refl)
+  noted-stands heard rest k b place front (longPair known full) e m = absurd (not-frame (told-frame LONG m .1) refl)
+  noted-stands heard rest k b place front (ignored f) e m = absurd (List·Memᴰ·not-nil m)
+  noted-stands heard rest k b place front (begins s) e m = absurd (List·Memᴰ·not-nil m)
+  noted-stands heard rest k b place front (address a) e m = absurd (List·Memᴰ·not-nil m)
+  noted-stands heard rest k b place front (waits l s) e m = absurd (List·Memᴰ·not-nil m)
+  noted-stands heard rest k b place front (plain l other room) e m = absurd (List·Memᴰ·not-nil m)
+  noted-stands heard rest k b place front (pair known room) e m = absurd (List·Memᴰ·not-nil m)
 
   pub tell-stands : (w heard : List ℕ) (v : View) → Trace line heard (v .phase) (v .kept) → (place : ℕ) (content : List ℕ)
       → List·Memᴰ (toldAt place FRAME content) (tell line v (length heard) w)
@@ -191,9 +217,9 @@ module _ (line : Line) (good : mayStand line ≡ true) where
   tell-stands [] heard v e place content m = absurd (List·Memᴰ·not-nil m)
   tell-stands (b ∷ bs) heard v e place content m =
       let t = turns line v b in
-      let why = turn-why line (v .phase) (length (v .kept)) b in
+      let why = turn-rule line (v .phase) (length (v .kept)) b in
       let on = tell-stands bs (heard ++ (b ∷ [])) (next v t) (trace-next line good heard (v .kept) b why e) place content in
       let end : length heard + 1 ≡ length (heard ++ (b ∷ [])) = sym (length-append heard (b ∷ [])) in
-      ⊎-elim (entry-stands heard bs (v .kept) b place content why e)
+      ⊎-elim (noted-stands heard bs (v .kept) b place content why e)
       (λ n. rw append-assoc at (on (subst (λ (at : ℕ). List·Memᴰ (toldAt place FRAME content) (tell line (next v t) at bs)) end n)))
-      (List·Memᴰ·append-cases (entry line v (length heard + 1) t) m)
+      (List·Memᴰ·append-cases (noted line v (length heard + 1) t) m)

@@ -1,9 +1,10 @@
 -- An event is known by its name.
 -- Assumes nothing.
-use mathlib.Core.Path.{_≡_, refl, sym, ap, _∙_}
+use mathlib.Core.Path.{_≡_, refl}
 use Rattle.link.specs.declared.event.Event.{Event}
 use Rattle.link.specs.declared.event.Event.the-variants.{None, Frame, Check, Short, Long, Pair, Addr}
 use Rattle.link.specs.Events.{Name, NONE, FRAME, CHECK, SHORT, LONG, PAIR, ADDR, named}
+use Rattle.link.proofs.Laws.Inverse.{injective}
 
 -- the event with this name
 abbrev eventOf : Name → Event
@@ -25,4 +26,4 @@ eventOf-named Pair = refl
 eventOf-named Addr = refl
 
 pub named-injective : (a b : Event) → named a ≡ named b → a ≡ b
-named-injective a b e = sym (eventOf-named a) ∙ ap eventOf e ∙ eventOf-named b
+named-injective = injective named eventOf eventOf-named

@@ -1,16 +1,48 @@
--- A receiver's record that no row of the refusal table names, and that a turn leaves it so.
+-- What a turn leaves of a receiver's record: its line, a count within the limit and a full array.
 -- Assumes nothing.
 use mathlib.Core.Path.{_≡_, refl, _∙_}
+use mathlib.Core.List.{List}
 use Prim.Native.Nat.{ℕ, _≤_, zero-le}
 use native.Mathlib.Omega.{arith}
 use lib.ListN.{length, length-set, length-replicate}
+use Rattle.link.specs.declared.frame.Check.{Check}
+use Rattle.link.specs.declared.event.Verdict.{Verdict}
 use Rattle.link.specs.declared.line.Line.{Line}
 use Rattle.link.specs.declared.turn.Turn.{Turn}
 use Rattle.link.specs.declared.turn.Turn.the-variants.{Rest, Begin, Wait, Keep, Stop, Tell}
 use Rattle.link.specs.declared.receiver.Receiver.{Receiver}
 use Rattle.link.specs.Limits.{mostContent}
-use Rattle.link.specs.Receiving.{fresh, moved}
+use Rattle.link.specs.Events.{tooShort, verdict}
+use Rattle.link.specs.Receiving.{fresh, moved, outcome}
+use Rattle.link.proofs.Laws.Choice.{cond-elim}
 use Rattle.link.proofs.Laws.Turning.{Room}
+
+-- ---- an event carries no more than was kept
+
+verdict-length : (check : Check) (kept : List ℕ) → verdict check kept .length ≤ length kept
+unfolding verdict
+verdict-length check kept =
+    cond-elim (λ (v : Verdict). v .length ≤ length kept) (tooShort kept) (λ t. zero-le) (λ f. omega arith)
+
+pub outcome-length : (check : Check) (kept : List ℕ) (t : Turn) → outcome check kept t .length ≤ length kept
+unfolding outcome
+outcome-length check kept Rest = zero-le
+outcome-length check kept Begin = zero-le
+outcome-length check kept Wait = zero-le
+outcome-length check kept (Keep b) = zero-le
+outcome-length check kept Stop = verdict-length check kept
+outcome-length check kept (Tell why) = zero-le
+
+-- ---- what a turn leaves
+
+pub line-moved : (s : Receiver) (t : Turn) → moved s t .line ≡ s .line
+unfolding moved
+line-moved s Rest = refl
+line-moved s Begin = refl
+line-moved s Wait = refl
+line-moved s (Keep b) = refl
+line-moved s Stop = refl
+line-moved s (Tell why) = refl
 
 pub count-moved : (s : Receiver) (t : Turn) → Room (s .count) t → s .count ≤ mostContent → moved s t .count ≤ mostContent
 unfolding moved
@@ -21,7 +53,15 @@ count-moved s (Keep b) room within = omega (arith, room)
 count-moved s Stop room within = zero-le
 count-moved s (Tell why) room within = zero-le
 
--- a record of this line, with a full array and a count within the limit
+sized-moved : (s : Receiver) (t : Turn) → length (moved s t .content) ≡ length (s .content)
+unfolding moved
+sized-moved s Rest = refl
+sized-moved s Begin = refl
+sized-moved s Wait = refl
+sized-moved s (Keep b) = length-set (s .content) (s .count) b
+sized-moved s Stop = refl
+sized-moved s (Tell why) = refl
+
 pub record Fit (line : Line) (s : Receiver) : Type 0 where
   pub on : s .line ≡ line
   pub sized : length (s .content) ≡ mostContent
@@ -31,11 +71,5 @@ pub fresh-fit : (line : Line) → Fit line (fresh line)
 fresh-fit line = record { on = refl; sized = length-replicate {A = ℕ} mostContent 0; within = zero-le }
 
 pub fit-moved : {line : Line} {s : Receiver} → Fit line s → (t : Turn) → Room (s .count) t → Fit line (moved s t)
-unfolding moved
-fit-moved fit Rest room = fit
-fit-moved fit Begin room = record { on = fit .on; sized = fit .sized; within = zero-le }
-fit-moved fit Wait room = record { on = fit .on; sized = fit .sized; within = fit .within }
-fit-moved {s} fit (Keep b) room =
-    record { on = fit .on; sized = length-set (s .content) (s .count) b ∙ fit .sized; within = omega (arith, room) }
-fit-moved fit Stop room = record { on = fit .on; sized = fit .sized; within = zero-le }
-fit-moved fit (Tell why) room = record { on = fit .on; sized = fit .sized; within = zero-le }
+fit-moved {s} fit t room =
+    record { on = line-moved s t ∙ fit .on; sized = sized-moved s t ∙ fit .sized; within = count-moved s t room (fit .within) }

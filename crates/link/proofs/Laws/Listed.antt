@@ -8,23 +8,25 @@ use Prim.Native.Nat.{ℕ, _+_, _≤_}
 use native.Mathlib.Omega.{arith}
 use lib.ListN.{length, take, drop}
 use lib.Seq.{take-at}
+use Rattle.link.specs.declared.frame.Check.the-variants.{Fcs, Sum}
 use Rattle.link.specs.declared.line.Line.{Line}
 use Rattle.link.specs.declared.line.Line.the-variants.{Point, Addressed}
 use Rattle.link.specs.declared.refusal.Counted.{Counted}
 use Rattle.link.specs.declared.receiver.Receiver.{Receiver}
-use Rattle.link.specs.Limits.{leastContent, mostData}
+use Rattle.link.specs.Limits.{leastContent, mostContent, mostData}
 use Rattle.link.specs.Address.{isNever, takes}
 use Rattle.link.specs.Image.{image}
-use Rattle.link.specs.Frame.{checkLength, withCheck, pointContent, addressedContent}
-use Rattle.link.specs.Line.{checkOn, checked, Taken}
+use Rattle.link.specs.Frame.{withCheck, pointContent, addressedContent}
+use Rattle.link.specs.Line.{checked, hasStation, Taken}
 use Rattle.link.specs.Events.{FRAME}
 use Rattle.link.specs.Refusals.{answered}
 use Rattle.link.specs.Writing.{After, after, written, pointWritten, addressedWritten, ByTable, tooLong, badAddress, noRoom, frame}
 use Rattle.link.specs.Hearing.{Told, toldAt, IsFresh, Hearing}
-use Rattle.link.specs.Listing.{Stands, Says, onPoint, onAddressed, IsImage}
+use Rattle.link.specs.Listing.{Stands, Fields, onPoint, onAddressed, IsImage}
+use Rattle.link.proofs.Laws.Address.{takes-lt}
 use Rattle.link.proofs.Laws.Frame.{length-withCheck, length-point, length-addressed}
-use Rattle.link.proofs.Laws.Writing.{by-table}
-use Rattle.link.proofs.Laws.Demand.{hearing-lists}
+use Rattle.link.proofs.Laws.Writing.{by-table, point-writes, addressed-writes}
+use Rattle.link.proofs.Laws.Demand.{fresh-begins, hearing-lists}
 
 -- ---- the crew's side
 
@@ -55,7 +57,7 @@ module _ (line : Line) (front «data» before rest : List ℕ) where
         ends = ap (λ (n : ℕ). length before + n) (w .counts);
         least = omega arith;
         most = omega (arith, w .fits);
-        taken = taken;
+        address = taken;
       }
 
 wrote : (never : Bool) («data» content out : List ℕ) (r : Counted) {out′ : List ℕ} → after r out′ ≡ written never «data» content out
@@ -96,27 +98,27 @@ addressed-listed r station address identifier command «data» out out′ before
 
 -- ---- the desk's side
 
--- a content of at least 4 bytes has all that its line's frames have
-says : (line : Line) (content : List ℕ) → leastContent ≤ length content + checkLength (checkOn line) → Says line content (checked line content)
-unfolding pointContent addressedContent
-says Point [] least = absurd (omega arith)
-says Point (a ∷ []) least = absurd (omega arith)
-says Point (identifier ∷ command ∷ «data») least = onPoint identifier command «data»
-says (Addressed station) [] least = absurd (omega arith)
-says (Addressed station) (a ∷ []) least = absurd (omega arith)
-says (Addressed station) (a ∷ b ∷ []) least = absurd (omega arith)
-says (Addressed station) (address ∷ identifier ∷ command ∷ «data») least = onAddressed address identifier command «data»
+-- a content of 4 to 64 bytes has all that its line's frames have, and the writer writes it
+fields : (line : Line) → hasStation line ≡ true → (front : List ℕ) → leastContent ≤ length (checked line front)
+    → length (checked line front) ≤ mostContent → Taken line (checked line front)
+    → Fields line front (checked line front)
+unfolding withCheck pointContent addressedContent
+fields Point good [] least most taken = absurd (omega (arith, length-withCheck Fcs []))
+fields Point good (a ∷ []) least most taken = absurd (omega (arith, length-withCheck Fcs (a ∷ [])))
+fields Point good (identifier ∷ command ∷ «data») least most taken =
+    onPoint identifier command «data»
+    (λ out room. point-writes identifier command «data» out (omega (arith, length-point identifier command «data»)) room)
+fields (Addressed station) good [] least most taken = absurd (omega (arith, length-withCheck Sum []))
+fields (Addressed station) good (a ∷ []) least most taken = absurd (omega (arith, length-withCheck Sum (a ∷ [])))
+fields (Addressed station) good (a ∷ b ∷ []) least most taken = absurd (omega (arith, length-withCheck Sum (a ∷ b ∷ [])))
+fields (Addressed station) good (address ∷ identifier ∷ command ∷ «data») least most taken =
+    onAddressed address identifier command «data» taken
+    (λ out room. addressed-writes address identifier command «data» out (omega (arith, takes-lt station address good taken))
+    (omega (arith, length-addressed address identifier command «data»)) room)
 
--- every listed frame is the image of what its content says, byte for byte
+-- every listed frame is the image that the writer writes of what it lists, byte for byte
 pub listed-image : {line : Line} {s : Receiver} {stream : List ℕ} {all : List Told} → IsFresh line s → Hearing stream s 0 all
-    → (place : ℕ) (content : List ℕ) → List·Memᴰ (toldAt place FRAME content) all → IsImage line stream place content
-listed-image {line} fr h place content m =
-    let s = hearing-lists fr h .only place content m in
-    record {
-      written = checked line content;
-      says = says line content (omega (arith, s .least, length-withCheck (checkOn line) content));
-      before = s .before;
-      after = s .after;
-      split = s .split;
-      ends = s .ends;
-    }
+    → (place : ℕ) (front : List ℕ) → List·Memᴰ (toldAt place FRAME front) all → IsImage line stream place front
+listed-image {line} fr h place front m =
+    let s = hearing-lists fr h .only place front m in
+    record { stands = s; fields = fields line (fresh-begins fr .good) front (s .least) (s .most) (s .address) }

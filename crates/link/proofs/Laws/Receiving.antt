@@ -1,25 +1,50 @@
--- Laws of one call of a receiver: its refusals, and that what is left of the piece gives what the whole piece gives.
+-- Laws of one call of a receiver: its refusals, what it takes and what it carries, and how its loop goes.
 -- Assumes nothing.
-use mathlib.Core.Path.{_≡_, refl, subst⁻¹}
-use mathlib.Core.Bool.{Bool, true, false, cond, or-true}
+use mathlib.Core.Path.{_≡_, refl, sym, subst⁻¹, _∙_}
+use mathlib.Core.Bool.{Bool, true, false, cond, not, or-true, true≢false, false≢true}
 use mathlib.Core.List.{List, [], _∷_}
-use Prim.Native.Nat.{ℕ, _+_, _≤_, _<_}
+use Prim.Native.Nat.{ℕ, _+_, _≤_, _<_, zero-le}
+use native.Mathlib.Nat.{min-le-left}
 use native.Mathlib.Omega.{arith}
-use lib.ListN.{length, take, drop, getD, drop-of-length-le}
-use borrow.Author.Tests.{lt-ltb, le-ltb}
+use lib.Dec.{ltb}
+use lib.ListN.{length, drop, getD, length-take, drop-of-length-le}
+use borrow.Author.Tests.{lt-ltb, le-ltb, ltb-false}
 use Rattle.link.specs.declared.refusal.Refusal.the-variants.{BadState}
+use Rattle.link.specs.declared.frame.Check.{Check}
+use Rattle.link.specs.declared.event.Event.{Event}
+use Rattle.link.specs.declared.event.Verdict.{Verdict}
+use Rattle.link.specs.declared.line.Line.{Line}
+use Rattle.link.specs.declared.phase.Phase.{Phase}
 use Rattle.link.specs.declared.turn.Turn.{Turn}
 use Rattle.link.specs.declared.receiver.Receiver.{Receiver}
 use Rattle.link.specs.Limits.{mostContent}
-use Rattle.link.specs.Line.{checkOn, mayStand}
+use Rattle.link.specs.Frame.{isRight}
+use Rattle.link.specs.Line.{checkOn, hasStation}
 use Rattle.link.specs.Refusals.{number}
-use Rattle.link.specs.Events.{NONE}
-use Rattle.link.specs.Turning.{turn}
-use Rattle.link.specs.Receiving.{moved, ends, silent, outcome, telling, heard, badState, refusedState, Said, received}
-use Rattle.link.proofs.Laws.Choice.{cond-elim}
-use Rattle.link.proofs.Laws.Turning.{Room, turn-room}
-use Rattle.link.proofs.Laws.Fit.{Fit, fit-moved}
+use Rattle.link.specs.Events.{NONE, named, happened, silent, tooShort, verdict}
+use Rattle.link.specs.Rules.{ByRule, ignored, begins, stops, address, noAddress, waits, plain, pair, noPair, longPlain, longPair}
+use Rattle.link.specs.Receiving.{soFar, turnAt, moved, hasEvent, outcome, outcomeAt, answering, heard, badState, refusedState, Said, received}
+use Rattle.link.proofs.Laws.Choice.{cond-elim, or-none}
 use Rattle.link.proofs.Laws.Lists.{drop-next}
+use Rattle.link.proofs.Laws.Turning.{Room, turn-rule, turn-room}
+use Rattle.link.proofs.Laws.Fit.{outcome-length, count-moved, line-moved, Fit, fit-moved}
+
+-- ---- the piece byte by byte
+
+-- what holds at the piece's end and at an event, and goes from each byte with no event to the bytes before, holds of what was heard
+module _ (P : ℕ → Receiver → List ℕ → Said → Type 0)
+    (out : (taken : ℕ) (s : Receiver) → P taken s [] (answering s silent taken))
+    (event : (taken : ℕ) (s : Receiver) (b : ℕ) (bs : List ℕ) → hasEvent (turnAt s b) ≡ true
+    → P taken s (b ∷ bs) (answering (moved s (turnAt s b)) (outcomeAt s (turnAt s b)) (taken + 1)))
+    (on : (taken : ℕ) (s : Receiver) (b : ℕ) (bs : List ℕ) (said : Said) → hasEvent (turnAt s b) ≡ false
+    → P (taken + 1) (moved s (turnAt s b)) bs said → P taken s (b ∷ bs) said) where
+  pub heard-elim : (piece : List ℕ) (taken : ℕ) (s : Receiver) → P taken s piece (heard taken s piece)
+  unfolding heard
+  heard-elim [] taken s = out taken s
+  heard-elim (b ∷ bs) taken s =
+      let t = turnAt s b in
+      let rest = heard-elim bs (taken + 1) (moved s t) in
+      cond-elim (P taken s (b ∷ bs)) (hasEvent t) (event taken s b bs) (λ n. on taken s b bs (heard (taken + 1) (moved s t) bs) n rest)
 
 -- ---- row 4 of the refusal table: when, and else the piece is heard
 
@@ -28,39 +53,129 @@ module _ (s : Receiver) (piece : List ℕ) where
   unfolding received
   refuses-count over = rw (lt-ltb mostContent (s .count) over)
 
-  pub refuses-station : mayStand (s .line) ≡ false → received s piece ≡ refusedState s
+  pub refuses-station : hasStation (s .line) ≡ false → received s piece ≡ refusedState s
   unfolding received
   refuses-station bad = rw (bad, or-true)
 
-  pub hears : s .count ≤ mostContent → mayStand (s .line) ≡ true → received s piece ≡ heard 0 s piece
+  pub hears-piece : s .count ≤ mostContent → hasStation (s .line) ≡ true → received s piece ≡ heard 0 s piece
   unfolding received
-  hears within good = rw (le-ltb mostContent (s .count) within, good)
+  hears-piece within good = rw (le-ltb mostContent (s .count) within, good)
 
--- ---- and only then
-
-accepts : (piece : List ℕ) (taken : ℕ) (s : Receiver) → heard taken s piece .refusal ≡ 0
-unfolding heard
-accepts [] taken s = refl
-accepts (b ∷ bs) taken s =
-    let t = turn (s .line) (s .phase) (s .count) b in
-    let rec = accepts bs (taken + 1) (moved s t) in
-    cond-elim (λ (said : Said). said .refusal ≡ 0) (ends t) (λ y. refl) (λ n. rec)
-
-pub refused-only : (s : Receiver) (piece : List ℕ) → received s piece .refusal ≡ cond (badState s) (number BadState) 0
-unfolding received
-refused-only s piece = go (badState s)
-  where
-    go : (t : Bool) → cond t (refusedState s) (heard 0 s piece) .refusal ≡ cond t (number BadState) 0
-    go true = refl
-    go false = accepts piece 0 s
+  -- and only then
+  pub refused-only : received s piece .refusal ≡ cond (badState s) (number BadState) 0
+  unfolding received
+  refused-only = go (badState s)
+    where
+      go : (t : Bool) → cond t (refusedState s) (heard 0 s piece) .refusal ≡ cond t (number BadState) 0
+      go true = refl
+      go false =
+          heard-elim (λ (n : ℕ) (r : Receiver) (p : List ℕ) (said : Said). said .refusal ≡ 0) (λ n r. refl) (λ n r b bs e. refl)
+          (λ n r b bs said e h. h) piece 0 s
 
 -- an empty piece changes nothing
 pub empty-piece : (s : Receiver) → received s [] .receiver ≡ s × received s [] .event ≡ NONE × received s [] .taken ≡ 0
 unfolding received heard
 empty-piece s =
-    cond-elim (λ (said : Said). said .receiver ≡ s × said .event ≡ NONE × said .taken ≡ 0) (badState s) (λ t. (refl, refl, refl)) (λ f. (refl, refl, refl))
+    cond-elim (λ (said : Said). said .receiver ≡ s × said .event ≡ NONE × said .taken ≡ 0) (badState s) (λ t. (refl, refl, refl))
+    (λ f. (refl, refl, refl))
 
--- ---- the piece byte by byte
+-- ---- what a call takes
+
+-- a turn with an event tells something
+verdict-happens : (check : Check) (k : List ℕ) → happened (named (verdict check k .event)) ≡ true
+unfolding verdict
+verdict-happens check k =
+    cond-elim (λ (v : Verdict). happened (named (v .event)) ≡ true) (tooShort k) (λ t. refl)
+    (λ f. cond-elim (λ (e : Event). happened (named e) ≡ true) (isRight check k) (λ r. refl) (λ w. refl))
+
+rule-happens : (check : Check) (k : List ℕ) {line : Line} {phase : Phase} {count b : ℕ} {t : Turn} → ByRule line count b phase t
+    → hasEvent t ≡ true → happened (named (outcome check k t .event)) ≡ true
+unfolding outcome
+rule-happens check k (ignored f) y = absurd (false≢true y)
+rule-happens check k (begins e) y = absurd (false≢true y)
+rule-happens check k (stops e) y = verdict-happens check k
+rule-happens check k (address a) y = absurd (false≢true y)
+rule-happens check k (noAddress a) y = refl
+rule-happens check k (waits l e) y = absurd (false≢true y)
+rule-happens check k (plain l o room) y = absurd (false≢true y)
+rule-happens check k (pair p room) y = absurd (false≢true y)
+rule-happens check k (noPair p f) y = refl
+rule-happens check k (longPlain l o full) y = refl
+rule-happens check k (longPair p full) y = refl
+
+-- no byte back, none behind the piece, at least one of a piece that has one, and all where nothing is told
+pub record Takes (taken : ℕ) (piece : List ℕ) (said : Said) : Type 0 where
+  pub least : taken ≤ said .taken
+  pub most : said .taken ≤ taken + length piece
+  pub some : 0 < length piece → taken < said .taken
+  pub all : happened (said .event) ≡ false → said .taken ≡ taken + length piece
+
+pub heard-takes : (piece : List ℕ) (taken : ℕ) (s : Receiver) → Takes taken piece (heard taken s piece)
+heard-takes =
+    heard-elim (λ (taken : ℕ) (s : Receiver) (piece : List ℕ) (said : Said). Takes taken piece said)
+    (λ taken s. record { least = omega arith; most = omega arith; some = λ h. absurd (omega arith); all = λ q. omega arith })
+    (λ taken s b bs y. record {
+      least = omega arith;
+      most = omega arith;
+      some = λ h. omega arith;
+      all = λ q. absurd (true≢false (sym (rule-happens (checkOn (s .line)) (soFar s) (turn-rule (s .line) (s .phase) (s .count) b) y) ∙ q));
+    })
+    (λ taken s b bs said n r. record {
+      least = omega (arith, r .least);
+      most = omega (arith, r .most);
+      some = λ h. omega (arith, r .least);
+      all = λ q. omega (arith, r .all q);
+    })
+
+-- of a call that is not refused
+pub received-takes : (s : Receiver) (piece : List ℕ) → badState s ≡ false → Takes 0 piece (received s piece)
+unfolding received
+received-takes s piece good = rw good (heard-takes piece 0 s)
+
+-- ---- what it leaves and carries
+
+-- a receiver that is not refused stays so, so after a fresh one no call is refused
+record Stays (s : Receiver) (said : Said) : Type 0 where
+  count : said .receiver .count ≤ mostContent
+  line : said .receiver .line ≡ s .line
+  carries : said .length ≤ mostContent
+
+heard-stays : (piece : List ℕ) (taken : ℕ) (s : Receiver) → s .count ≤ mostContent → Stays s (heard taken s piece)
+heard-stays =
+    heard-elim (λ (taken : ℕ) (s : Receiver) (piece : List ℕ) (said : Said). s .count ≤ mostContent → Stays s said)
+    (λ taken s within. record { count = within; line = refl; carries = zero-le })
+    (λ taken s b bs y within. record {
+      count = moved-within s b within;
+      line = line-moved s (turnAt s b);
+      carries =
+          omega (
+            arith,
+            outcome-length (checkOn (s .line)) (soFar s) (turnAt s b),
+            length-take (s .count) (s .content),
+            min-le-left (s .count) (length (s .content)),
+          );
+    })
+    (λ taken s b bs said n h within. let r = h (moved-within s b within) in
+    record { count = r .count; line = r .line ∙ line-moved s (turnAt s b); carries = r .carries })
+  where
+    moved-within : (s : Receiver) (b : ℕ) → s .count ≤ mostContent → moved s (turnAt s b) .count ≤ mostContent
+    moved-within s b within = count-moved s (turnAt s b) (turn-room (s .line) (s .phase) (s .count) b) within
+
+pub stays-good : (s : Receiver) (piece : List ℕ) → badState s ≡ false → badState (received s piece .receiver) ≡ false
+unfolding received
+stays-good s piece good =
+    let parts = or-none (ltb mostContent (s .count)) (not (hasStation (s .line))) good in
+    let r = heard-stays piece 0 s (ltb-false mostContent (s .count) (parts .0)) in
+    rw (good, le-ltb mostContent (heard 0 s piece .receiver .count) (r .count), r .line) (parts .1)
+
+-- what an event carries lies within the answer's content
+pub length-within : (s : Receiver) (piece : List ℕ) → received s piece .length ≤ mostContent
+unfolding received
+length-within s piece =
+    cond-elim (λ (said : Said). said .length ≤ mostContent) (badState s) (λ t. zero-le)
+    (λ f. heard-stays piece 0 s (ltb-false mostContent (s .count) (or-none (ltb mostContent (s .count)) (not (hasStation (s .line))) f .0)) .carries)
+
+-- ---- how the loop goes
 
 -- Some bytes were taken, and the receiver is now this one: what is left of the piece gives what the whole piece gave from the first
 -- receiver on.
@@ -71,23 +186,22 @@ pub record Going (piece : List ℕ) (first : Receiver) (taken : ℕ) (s : Receiv
 
 module _ {piece : List ℕ} {first : Receiver} {taken : ℕ} {s : Receiver} (going : Going piece first taken s) where
   -- at the piece's end
-  pub runs-out : length piece ≤ taken → telling s silent taken ≡ heard 0 first piece
+  pub runs-out : length piece ≤ taken → answering s silent taken ≡ heard 0 first piece
   unfolding heard
-  runs-out out = rw (drop-of-length-le piece out) at (going .same)
+  runs-out end = rw (drop-of-length-le piece end) at (going .same)
 
-  module _ {t : Turn} (more : taken < length piece) (is : t ≡ turn (s .line) (s .phase) (s .count) (getD piece taken 0)) where
+  module _ {t : Turn} (more : taken < length piece) (is : t ≡ turnAt s (getD piece taken 0)) where
     -- a byte with no event
-    pub goes-on : ends t ≡ false → Going piece first (taken + 1) (moved s t)
+    pub next-byte : hasEvent t ≡ false → Going piece first (taken + 1) (moved s t)
     unfolding heard
-    goes-on quiet =
+    next-byte none =
         record {
           part = omega arith;
           fit = fit-moved (going .fit) t (subst⁻¹ (Room (s .count)) is (turn-room (s .line) (s .phase) (s .count) (getD piece taken 0)));
-          same = rw (drop-next piece taken more, ← is, quiet) at (going .same);
+          same = rw (drop-next piece taken more, ← is, none) at (going .same);
         }
 
     -- the byte of an event
-    pub breaks-off : ends t ≡ true
-        → telling (moved s t) (outcome (checkOn (s .line)) (take (s .count) (s .content)) t) (taken + 1) ≡ heard 0 first piece
+    pub breaks-off : hasEvent t ≡ true → answering (moved s t) (outcomeAt s t) (taken + 1) ≡ heard 0 first piece
     unfolding heard
-    breaks-off told = rw (drop-next piece taken more, ← is, told) at (going .same)
+    breaks-off one = rw (drop-next piece taken more, ← is, one) at (going .same)

@@ -1,12 +1,13 @@
 -- A refusal is known by its number.
 -- Assumes nothing.
-use mathlib.Core.Path.{_≡_, refl, sym, ap, _∙_}
+use mathlib.Core.Path.{_≡_, refl}
 use mathlib.Core.List.{[], _∷_}
 use Prim.Native.Nat.{ℕ}
 use lib.ListN.{getD}
 use Rattle.link.specs.declared.refusal.Refusal.{Refusal}
 use Rattle.link.specs.declared.refusal.Refusal.the-variants.{None, NoRoom, TooLong, BadAddress, BadState, BadRequest, WrongId, WrongCommand, WrongLength, WrongReason}
 use Rattle.link.specs.Refusals.{number}
+use Rattle.link.proofs.Laws.Inverse.{injective}
 
 -- the refusal with this number
 abbrev numbered : ℕ → Refusal
@@ -26,4 +27,4 @@ numbered-number WrongLength = refl
 numbered-number WrongReason = refl
 
 pub number-injective : (a b : Refusal) → number a ≡ number b → a ≡ b
-number-injective a b e = sym (numbered-number a) ∙ ap numbered e ∙ numbered-number b
+number-injective = injective number numbered numbered-number

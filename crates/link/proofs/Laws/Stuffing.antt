@@ -31,6 +31,10 @@ plain-is b h = simp (ne-eqb b 0xFD (omega arith), ne-eqb b 0xFE (omega arith), n
 pub special-is : (b : ℕ) → 0xFD ≤ b → b < 0x100 → special b ≡ true
 special-is b least most = by-special (λ (n : ℕ). special n ≡ true) b least most refl refl refl
 
+-- a byte that is none of them is not this one of them
+pub plain-ne : (b x : ℕ) → special b ≡ false → special x ≡ true → eqb b x ≡ false
+plain-ne b x other one = ne-eqb b x (λ e. true≢false (sym one ∙ ap special (sym e) ∙ other))
+
 -- the four cases of a stuffed byte
 pub by-stuffed : (P : ℕ → List ℕ → Type 0)
     → P 0xFD (0xFF ∷ 0x02 ∷ [])

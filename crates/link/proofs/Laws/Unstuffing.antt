@@ -1,17 +1,17 @@
 -- Stuffing can be undone, so no two contents have one stuffing, or one image.
 -- Assumes nothing.
 use mathlib.Core.Path.{_≡_, refl, sym, ap, _∙_}
-use mathlib.Core.Bool.{Bool, true, false, true≢false}
+use mathlib.Core.Bool.{Bool, true, false}
 use mathlib.Core.List.{List, [], _∷_, _++_, append-cancel-left, append-cancel-right}
 use mathlib.Core.Option.{Option, none, some, Option·map}
 use Prim.Native.Nat.{ℕ, _-_, _≤_}
 use native.Mathlib.Omega.{arith}
 use lib.Dec.{eqb, leb}
-use borrow.Author.Tests.{eqb-true, leb-true, ne-eqb}
+use borrow.Author.Tests.{eqb-true, leb-true}
 use Rattle.link.specs.Stuffing.{special, stuffed, stuffing, undo, unstuffing}
 use Rattle.link.specs.Image.{start, stop, image}
 use Rattle.link.proofs.Laws.Choice.{cond-elim}
-use Rattle.link.proofs.Laws.Stuffing.{by-stuffed, stuffed-other, stuffed-special}
+use Rattle.link.proofs.Laws.Stuffing.{plain-ne, by-stuffed, stuffed-other, stuffed-special}
 
 -- a content with one byte more in front
 abbrev before : ℕ → Option (List ℕ) → Option (List ℕ)
@@ -20,8 +20,7 @@ before b = Option·map (λ (c : List ℕ). b ∷ c)
 plain-next : (b : ℕ) → special b ≡ false → (s : List ℕ) → undo false (b ∷ s) ≡ before b (undo false s)
 unfolding undo
 plain-next b plain s =
-    let h : eqb b 0xFF ≡ false = ne-eqb b 0xFF (λ e. true≢false (rw e at plain)) in
-    rw (plain, h)
+    rw (plain, plain-ne b 0xFF plain refl)
 
 -- undone, a stuffed byte is that byte
 next : (b : ℕ) (s : List ℕ) → undo false (stuffed b ++ s) ≡ before b (undo false s)

@@ -6,19 +6,19 @@ use borrow.Author.Needs.{needs}
 use Rattle.link.proofs.receiver.Receiver.addressed.Statement.{statement}
 use Rattle.link.proofs.receiver.Receiver.addressed.Tie as tie
 
-on-requires : tie.Need-on-requires
-on-requires c κs = search needs
+fresh-requires : tie.Need-fresh-requires
+fresh-requires c κs = search needs
 
 is-station-requires : tie.Need-is-station-requires
 is-station-requires c κs = search needs
 
 returns : tie.Need-returns
 unfolding freshMade
-returns c = rw (c .before .before .on .ensures, sym (c .before .is-station .ensures) ∙ c .if1 .taken)
+returns c = rw (c .before .before .fresh .ensures, sym (c .before .is-station .ensures) ∙ c .if1 .taken)
 
 returns-2 : tie.Need-returns-2
 unfolding freshMade
-returns-2 c = rw (c .before .before .on .ensures, sym (c .before .is-station .ensures) ∙ c .if1 .left)
+returns-2 c = rw (c .before .before .fresh .ensures, sym (c .before .is-station .ensures) ∙ c .if1 .left)
 
 pub addressed-spec : {M : Type 1} → statement M
-addressed-spec = tie.close (tie.spec on-requires is-station-requires returns returns-2)
+addressed-spec = tie.close (tie.spec fresh-requires is-station-requires returns returns-2)

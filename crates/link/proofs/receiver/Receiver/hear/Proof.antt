@@ -11,10 +11,10 @@ use Rattle.link.specs.declared.frame.Check.{Check}
 use Rattle.link.specs.declared.event.Verdict.{Verdict}
 use Rattle.link.specs.declared.receiver.Receiver.{Receiver}
 use Rattle.link.specs.Limits.{mostContent}
-use Rattle.link.specs.Turning.{verdict}
-use Rattle.link.specs.Receiving.{being, outside, moved, outcome, telling, heard}
+use Rattle.link.specs.Events.{verdict}
+use Rattle.link.specs.Receiving.{being, outside, moved, outcome, answering, heard}
 use Rattle.link.proofs.Laws.Turning.{Room, turn-room}
-use Rattle.link.proofs.Laws.Receiving.{Going, runs-out, goes-on, breaks-off}
+use Rattle.link.proofs.Laws.Receiving.{Going, runs-out, next-byte, breaks-off}
 use Rattle.link.proofs.receiver.Receiver.hear.Statement.{statement}
 use Rattle.link.proofs.receiver.Receiver.hear.Tie as tie
 
@@ -56,7 +56,7 @@ loop-again : tie.Need-loop-again Inv-loop μ-loop
 unfolding moved
 loop-again c =
     let d = c .before .before in
-    goes-on (d .before .before .before .loop .inv) (omega arith) (sym (c .enum-told .given .1) ∙ d .at-byte .ensures) refl
+    next-byte (d .before .before .before .loop .inv) (omega arith) (sym (c .enum-told .given .1) ∙ d .at-byte .ensures) refl
 
 enum-told-2 : tie.Need-enum-told-2 Inv-loop μ-loop
 enum-told-2 c = search needs
@@ -68,7 +68,7 @@ loop-again-2 : tie.Need-loop-again-2 Inv-loop μ-loop
 unfolding moved
 loop-again-2 c =
     let d = c .before .before in
-    goes-on (d .before .before .before .loop .inv) (omega arith) (sym (c .enum-told2 .given .1) ∙ d .at-byte .ensures) refl
+    next-byte (d .before .before .before .loop .inv) (omega arith) (sym (c .enum-told2 .given .1) ∙ d .at-byte .ensures) refl
 
 enum-told-3 : tie.Need-enum-told-3 Inv-loop μ-loop
 enum-told-3 c = search needs
@@ -80,7 +80,7 @@ loop-again-3 : tie.Need-loop-again-3 Inv-loop μ-loop
 unfolding moved
 loop-again-3 c =
     let d = c .before .before in
-    goes-on (d .before .before .before .loop .inv) (omega arith) (sym (c .enum-told3 .given .1) ∙ d .at-byte .ensures) refl
+    next-byte (d .before .before .before .loop .inv) (omega arith) (sym (c .enum-told3 .given .1) ∙ d .at-byte .ensures) refl
 
 enum-known-turn : tie.Need-enum-known-turn Inv-loop μ-loop
 enum-known-turn c = search needs
@@ -105,7 +105,7 @@ loop-again-4 : tie.Need-loop-again-4 Inv-loop μ-loop
 unfolding moved
 loop-again-4 c =
     let d = c .before .before .before in
-    goes-on (d .before .before .before .loop .inv) (omega arith) (sym (c .before .turn .given .1) ∙ d .at-byte .ensures) refl
+    next-byte (d .before .before .before .loop .inv) (omega arith) (sym (c .before .turn .given .1) ∙ d .at-byte .ensures) refl
 
 enum-told-4 : tie.Need-enum-told-4 Inv-loop μ-loop
 enum-told-4 c = search needs
@@ -138,10 +138,10 @@ returns-2 c =
     let m = c .before .before in
     let d = m .before in
     let l = d .before .before .before in
-    let on = telling (outside (l .before .before .before .args .self .line) (l .loop .content)) in
+    let on = answering (outside (l .before .before .before .args .self .line) (l .loop .content)) in
     let n = l .loop .taken + 1 in
     c .told2 .ensures
-    ∙ ap (λ (r : Receiver). telling r (m .match .verdict) n) (c .before .outside .ensures)
+    ∙ ap (λ (r : Receiver). answering r (m .match .verdict) n) (c .before .outside .ensures)
     ∙ ⊎-elim
     (λ w. ap (λ (v : Verdict). on v n) (w .5 ∙ w .4 .ensures ∙ ap (λ (k : Check). verdict k (take (l .loop .count) (l .loop .content))) (w .2 .ensures))
     ∙ breaks-off (l .loop .inv) (omega arith) (sym (w .1 .given .1) ∙ d .at-byte .ensures) refl)

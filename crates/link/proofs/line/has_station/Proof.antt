@@ -1,8 +1,8 @@
--- `line::may_stand` meets its contract.
+-- `line::has_station` meets its contract.
 -- Assumes nothing.
 use borrow.Author.Needs.{needs}
-use Rattle.link.proofs.line.may_stand.Statement.{statement}
-use Rattle.link.proofs.line.may_stand.Tie as tie
+use Rattle.link.proofs.line.has_station.Statement.{statement}
+use Rattle.link.proofs.line.has_station.Tie as tie
 
 enum-told : tie.Need-enum-told
 enum-told c = search needs
@@ -19,6 +19,6 @@ returns c = search needs
 returns-2 : tie.Need-returns-2
 returns-2 c = rw (c .before .before .line .given .1) (c .is-station .ensures)
 
-pub may-stand-spec : {M : Type 1} → statement M
-may-stand-spec =
+pub has-station-spec : {M : Type 1} → statement M
+has-station-spec =
     tie.close (tie.spec enum-told enum-known-line is-station-requires returns returns-2)

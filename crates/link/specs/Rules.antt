@@ -1,0 +1,47 @@
+-- The receiver's rules as a table: which turn a byte is, and when. `Laws.Turning` proves that `turn` answers by it, and that it leaves no
+-- other answer.
+-- 01, How the receiver moves; the numbers are those of its rules. Assumes nothing.
+use Prim.Native.Nat.{ℕ, zero, suc, _-_, _≤_, _<_}
+use mathlib.Core.Path.{_≡_}
+use mathlib.Core.Bool.{Bool, true, false}
+use Rattle.link.specs.declared.event.Event.the-variants.{Long, Pair, Addr}
+use Rattle.link.specs.declared.line.Line.{Line}
+use Rattle.link.specs.declared.line.Line.the-variants.{Point, Addressed}
+use Rattle.link.specs.declared.phase.Phase.{Phase}
+use Rattle.link.specs.declared.phase.Phase.the-variants.{Outside, Inside, Pending}
+use Rattle.link.specs.declared.turn.Turn.{Turn}
+use Rattle.link.specs.declared.turn.Turn.the-variants.{Rest, Begin, Wait, Keep, Stop, Tell}
+use Rattle.link.specs.Limits.{mostContent}
+use Rattle.link.specs.Stuffing.{special}
+use Rattle.link.specs.Image.{start, stop}
+use Rattle.link.specs.Address.{takes}
+
+-- behind so many content bytes a byte is the raw address, and whether this station takes it
+abbrev pub Address : Line → ℕ → ℕ → Bool → Type 0
+Address Point count b taken = ⊥
+Address (Addressed station) zero b taken = (b ≡ start → ⊥) × (b ≡ stop → ⊥) × (takes station b ≡ taken)
+Address (Addressed station) (suc count) b taken = ⊥
+
+-- behind so many content bytes a byte is not the address
+abbrev pub Later : Line → ℕ → Type 0
+Later Point count = Unit {0}
+Later (Addressed station) zero = ⊥
+Later (Addressed station) (suc count) = Unit {0}
+
+pub data ByRule (line : Line) (count b : ℕ) : Phase → Turn → Type 0 where
+  -- outside a frame everything but FD is ignored; FD begins a frame from every state
+  ignored : (b ≡ start → ⊥) → ByRule line count b Outside Rest
+  begins : {phase : Phase} → b ≡ start → ByRule line count b phase Begin
+  -- 1
+  stops : b ≡ stop → ByRule line count b Inside Stop
+  -- 2
+  address : Address line count b true → ByRule line count b Inside (Keep b)
+  noAddress : Address line count b false → ByRule line count b Inside (Tell Addr)
+  -- 3
+  waits : Later line count → b ≡ 0xFF → ByRule line count b Inside Wait
+  plain : Later line count → special b ≡ false → count < mostContent → ByRule line count b Inside (Keep b)
+  pair : b ≤ 0x02 → count < mostContent → ByRule line count b Pending (Keep (0xFF - b))
+  noPair : 0x02 < b → (b ≡ start → ⊥) → ByRule line count b Pending (Tell Pair)
+  -- 4
+  longPlain : Later line count → special b ≡ false → mostContent ≤ count → ByRule line count b Inside (Tell Long)
+  longPair : b ≤ 0x02 → mostContent ≤ count → ByRule line count b Pending (Tell Long)
