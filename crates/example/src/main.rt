@@ -1,6 +1,7 @@
 // Writes the request for a reader's device header, as it goes over the point line, and prints its bytes; then hands them to a receiver
 // and prints the content of the frame that it hears.
 use libc::STDOUT_FILENO;
+use link::event::Event;
 use link::receiver::Receiver;
 
 // The upper-case hexadecimal digit of a number's low four bits.
@@ -26,6 +27,10 @@ fn main() {
     check::expect(count == 6);
     print(&out[..count]);
     let heard = Receiver::point().receive(&out[..count]);
+    let event = heard.event;
+    let Event::Frame = event else {
+        return;
+    };
     let content = heard.content;
     let length = heard.length;
     check::expect(length == 2);

@@ -14,7 +14,8 @@ use Rattle.link.specs.Image.{image}
 use Rattle.link.specs.Fcs.{shiftStep, shiftSteps, byteStep, run, residue, fcs, fcsBytes}
 use Rattle.link.specs.Frame.{checkOf, withCheck, front, came, alike, isRight, pointContent}
 use Rattle.link.specs.Writing.{After, imageWritten, written, pointWritten}
-use Rattle.link.specs.Turning.{kept, plain, contentByte, inside, within, turn, verdict}
+use Rattle.link.specs.Turning.{kept, plain, contentByte, inside, within, turn}
+use Rattle.link.specs.Events.{verdict}
 use Rattle.link.specs.Receiving.{fresh, Said, saying, moved, outcome, heard, received}
 use Rattle.example.proofs.main.Statement.{statement}
 use Rattle.example.proofs.main.Tie as tie
@@ -72,11 +73,17 @@ slice-aggregate-receive c = sym (length-take-le _ _ (array-share-prefix-out-2 (c
 receive-requires : tie.Need-receive-requires
 receive-requires c κs = search needs
 
+enum-told : tie.Need-enum-told
+enum-told c = search needs
+
+returns : tie.Need-returns
+returns c = search needs
+
 expect-requires-2 : tie.Need-expect-requires-2
-expect-requires-2 c κs = eq-eqb (c .before .receive .result .length) 2 (carries (c .before) .0)
+expect-requires-2 c κs = eq-eqb (c .before .before .before .receive .result .length) 2 (carries (c .before .before .before) .0)
 
 array-share-prefix-content : tie.Need-array-share-prefix-content
-array-share-prefix-content c = omega (arith, carries (c .before .before))
+array-share-prefix-content c = omega (arith, carries (c .before .before .before .before))
 
 slice-aggregate-print-2 : tie.Need-slice-aggregate-print-2
 slice-aggregate-print-2 c = sym (length-take-le _ _ (array-share-prefix-content (c .before)))
@@ -84,8 +91,8 @@ slice-aggregate-print-2 c = sym (length-take-le _ _ (array-share-prefix-content 
 print-requires-2 : tie.Need-print-requires-2
 print-requires-2 c κs = search needs
 
-returns : tie.Need-returns
-returns c = search needs
+returns-2 : tie.Need-returns-2
+returns-2 c = search needs
 
 pub main-spec : {M : Type 1} → statement M
 main-spec =
@@ -102,8 +109,10 @@ main-spec =
     array-share-prefix-out-2
     slice-aggregate-receive
     receive-requires
+    enum-told
+    returns
     expect-requires-2
     array-share-prefix-content
     slice-aggregate-print-2
     print-requires-2
-    returns)
+    returns-2)
