@@ -1,5 +1,5 @@
--- Demand 3: the FRAMEs that a hearing tells are exactly the frames whose image stands in the stream. And what else people will ask: that
--- the cuts do not matter, and that there is a hearing of every stream.
+-- Demand 3: the FRAMEs that a hearing tells are exactly the frames whose image stands in the stream; and how the stream was cut does not
+-- matter.
 -- Assumes nothing.
 use mathlib.Core.Path.{_≡_, refl, sym, ap, subst, subst⁻¹, _∙_}
 use mathlib.Core.Bool.{Bool, true, false, cond}
@@ -39,6 +39,7 @@ use Rattle.link.proofs.Laws.Desk.{tell-stands}
 
 -- ---- a fresh receiver
 
+-- a receiver of this line that no row of the refusal table names, outside a frame
 pub record Begins (line : Line) (s : Receiver) : Type 0 where
   pub good : hasStation line ≡ true
   pub fit : Fit line s

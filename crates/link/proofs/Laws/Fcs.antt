@@ -43,7 +43,7 @@ fcs-lt bytes = xor-lt 16 (residue bytes) 0xFFFF (residue-lt bytes) (lit< tt)
 
 -- ---- F0B8
 
-pub run-append : (register : ℕ) (s t : List ℕ) → run register (s ++ t) ≡ run (run register s) t
+run-append : (register : ℕ) (s t : List ℕ) → run register (s ++ t) ≡ run (run register s) t
 unfolding run
 run-append register [] t = refl
 run-append register (b ∷ s) t = run-append (byteStep register b) s t

@@ -15,7 +15,7 @@ use Rattle.link.specs.Frame.{checkOf, checkLength, withCheck, pointConte
 use Rattle.link.proofs.Laws.Fcs.{good-residue}
 use Rattle.link.proofs.Laws.Laying.{take-front, laid-behind}
 
-pub length-check : (check : Check) (front : List ℕ) → length (checkOf check front) ≡ checkLength check
+length-check : (check : Check) (front : List ℕ) → length (checkOf check front) ≡ checkLength check
 unfolding checkOf fcsBytes
 length-check Fcs front = refl
 length-check Sum front = refl

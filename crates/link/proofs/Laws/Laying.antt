@@ -22,7 +22,7 @@ length-laid l at x h =
     simp (length-append, length-take, length-drop) (omega arith)
 
 -- up to its end, what was laid stands behind what was there
-pub take-laid : (l : List ℕ) (at : ℕ) (x : List ℕ) → at ≤ length l → take (at + length x) (laid l at x) ≡ take at l ++ x
+take-laid : (l : List ℕ) (at : ℕ) (x : List ℕ) → at ≤ length l → take (at + length x) (laid l at x) ≡ take at l ++ x
 unfolding laid
 take-laid l at x h =
     rw (← append-assoc (take at l) x (drop (at + length x) l))
