@@ -39,11 +39,6 @@ EachHolds (e ∷ es) = Holds e × EachHolds es
 abbrev master : Line
 master = Addressed 0x00
 
--- a content byte again and again: on the point line 62 of them before the check make a content of 64, on the addressed line 62 behind the
--- address
-abbrev again : ℕ → ℕ → List ℕ
-again count byte = replicate count byte
-
 abbrev pub examples : List Example
 examples =
     -- P1, P2, P3: images from 001
@@ -76,18 +71,18 @@ examples =
     ∷ hears master (0xFD ∷ 0xFF ∷ []) 2 ADDR []
     ∷ hears master (0xFD ∷ 0xFE ∷ []) 2 SHORT []
     ∷ hears master (0xFD ∷ 0x00 ∷ 0x01 ∷ 0x10 ∷ 0x12 ∷ 0xFE ∷ []) 6 CHECK (0x00 ∷ 0x01 ∷ 0x10 ∷ [])
-    -- content 64 passes, plain and stuffed
-    ∷ hears Point (image (withCheck Fcs (again 62 0x11))) 66 FRAME (again 62 0x11)
-    ∷ hears Point (image (withCheck Fcs (again 62 0xFF))) 128 FRAME (again 62 0xFF)
-    ∷ hears master (image (withCheck Sum (0x00 ∷ again 62 0x11))) 66 FRAME (0x00 ∷ again 62 0x11)
-    ∷ hears master (image (withCheck Sum (0x00 ∷ again 62 0xFF))) 128 FRAME (0x00 ∷ again 62 0xFF)
-    -- content 65 is LONG, at the last wire byte of the 65th
-    ∷ hears Point (image (withCheck Fcs (again 63 0x11))) 66 LONG []
-    ∷ hears Point (image (withCheck Fcs (again 63 0xFF))) 129 LONG []
-    ∷ hears master (image (withCheck Sum (0x00 ∷ again 63 0x11))) 66 LONG []
-    ∷ hears master (image (withCheck Sum (0x00 ∷ again 63 0xFF))) 129 LONG []
+    -- content 64 passes, plain and stuffed: 62 bytes before the FCS, and 62 between address and sum
+    ∷ hears Point (image (withCheck Fcs (replicate 62 0x11))) 66 FRAME (replicate 62 0x11)
+    ∷ hears Point (image (withCheck Fcs (replicate 62 0xFF))) 128 FRAME (replicate 62 0xFF)
+    ∷ hears master (image (withCheck Sum (0x00 ∷ replicate 62 0x11))) 66 FRAME (0x00 ∷ replicate 62 0x11)
+    ∷ hears master (image (withCheck Sum (0x00 ∷ replicate 62 0xFF))) 128 FRAME (0x00 ∷ replicate 62 0xFF)
+    -- with one byte more it is LONG, at the last wire byte of the 65th
+    ∷ hears Point (image (withCheck Fcs (replicate 63 0x11))) 66 LONG []
+    ∷ hears Point (image (withCheck Fcs (replicate 63 0xFF))) 129 LONG []
+    ∷ hears master (image (withCheck Sum (0x00 ∷ replicate 63 0x11))) 66 LONG []
+    ∷ hears master (image (withCheck Sum (0x00 ∷ replicate 63 0xFF))) 129 LONG []
     -- also where the 65th is itself stuffed; without a partner it is PAIR
-    ∷ hears Point (0xFD ∷ again 64 0x11 ++ (0xFF ∷ 0x00 ∷ [])) 67 LONG []
-    ∷ hears master (0xFD ∷ 0x00 ∷ again 63 0x11 ++ (0xFF ∷ 0x00 ∷ [])) 67 LONG []
-    ∷ hears Point (0xFD ∷ again 64 0x11 ++ (0xFF ∷ 0xFE ∷ [])) 67 PAIR []
+    ∷ hears Point (0xFD ∷ replicate 64 0x11 ++ (0xFF ∷ 0x00 ∷ [])) 67 LONG []
+    ∷ hears master (0xFD ∷ 0x00 ∷ replicate 63 0x11 ++ (0xFF ∷ 0x00 ∷ [])) 67 LONG []
+    ∷ hears Point (0xFD ∷ replicate 64 0x11 ++ (0xFF ∷ 0xFE ∷ [])) 67 PAIR []
     ∷ []

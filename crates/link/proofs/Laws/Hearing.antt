@@ -1,23 +1,25 @@
 -- There is a fresh receiver of the point line and for every station, and a hearing of every stream by it, so demand 3 is not empty.
 -- Assumes nothing.
 use mathlib.Core.Path.{_≡_, refl, sym, ap, _∙_}
-use mathlib.Core.Bool.{true, cond, _||_}
+use mathlib.Core.Bool.{true, false, cond, _||_}
 use mathlib.Core.List.{List, [], _++_, append-nil}
 use Prim.Native.Nat.{ℕ, zero, suc, _+_, _≤_, _<_}
 use native.Mathlib.Decide.{decLe}
 use native.Mathlib.Omega.{arith}
 use lib.ListN.{length, drop, length-drop}
+use borrow.Author.Tests.{le-ltb}
 use Rattle.link.specs.declared.refusal.Refusal.the-variants as refusal
 use Rattle.link.specs.declared.event.Verdict.{Verdict}
 use Rattle.link.specs.declared.line.Line.{Line}
 use Rattle.link.specs.declared.line.Line.the-variants.{Point, Addressed}
 use Rattle.link.specs.declared.receiver.Receiver.{Receiver}
 use Rattle.link.specs.declared.receiver.Heard.{Heard}
+use Rattle.link.specs.Limits.{mostContent}
 use Rattle.link.specs.Address.{isBroadcast, isNever, isStation}
 use Rattle.link.specs.Line.{hasStation}
 use Rattle.link.specs.Refusals.{number}
 use Rattle.link.specs.Events.{silent}
-use Rattle.link.specs.Receiving.{fresh, freshMade, Said, saying, turnAt, moved, outcomeAt, heard, received}
+use Rattle.link.specs.Receiving.{fresh, freshMade, Said, saying, turnAt, moved, outcomeAt, heard, badState, received}
 use Rattle.link.specs.Hearing.{Told, IsFresh, point, addressed, Hearing, over, call}
 use Rattle.link.proofs.Laws.Address.{station-kinds}
 use Rattle.link.proofs.Laws.Fit.{Fit}
@@ -38,6 +40,12 @@ fresh-point = point refl
 pub fresh-station : (station : ℕ) → isStation station ≡ true → IsFresh (Addressed station) (fresh (Addressed station))
 unfolding freshMade
 fresh-station station good = addressed (record { refusal = refusal.None; receiver = fresh (Addressed station) }) {station = station} (rw good) refl
+
+-- no row of the refusal table names it
+pub fresh-good : {line : Line} {s : Receiver} → IsFresh line s → badState s ≡ false
+fresh-good {s} fr =
+    let b = fresh-begins fr in
+    rw (le-ltb mostContent (s .count) (b .fit .within), b .fit .on, b .good)
 
 -- ---- a hearing of every stream
 
