@@ -1,6 +1,7 @@
 -- What a reader of this library must believe: the two lines' frames as functions on lists of bytes, and what each call answers.
 -- Read Stuffing, Image, Fcs, Sum, Address, Line and Frame beside document 01, 'Layout of a frame'; Refusals and Writing beside 'Refusal
--- numbers'; Events, Turning and Receiving beside 'How the receiver moves'; Hearing and Listing as the rule that crew and desk signed.
+-- numbers'; Events, Turning, Rules and Receiving beside 'How the receiver moves'; Hearing and Listing as the rule that crew and desk signed;
+-- Examples beside 'Bench examples'.
 -- Laying serves contracts inside the library only. A byte is a number; no definition asks that it be below 256, since the contracts
 -- hand over bytes.
 pub mod Limits

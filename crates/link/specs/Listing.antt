@@ -1,6 +1,6 @@
 -- Demand 3: which frames a hearing of a stream has to tell. README has the rule that crew and desk signed: a frame counts when its
--- complete wire image stands in the stream, and otherwise it does not. Built from images, checks and addresses alone.
--- 01, How much each call must say, names it among the demands. Assumes nothing.
+-- complete wire image stands in the stream, and otherwise it does not. `Stands` and `Lists` are built from images, checks and addresses
+-- alone. 01, How much each call must say, names the demand. Assumes nothing.
 use Prim.Native.Nat.{ℕ, _+_, _≤_, _<_}
 use mathlib.Core.Path.{_≡_}
 use mathlib.Core.Bool.{true}
@@ -39,12 +39,12 @@ pub record Lists (line : Line) (stream : List ℕ) (all : List Told) : Type 0 wh
   pub each : (place : ℕ) (front : List ℕ) → Stands line stream place front → List·Memᴰ (toldAt place FRAME front) all
   pub only : (place : ℕ) (front : List ℕ) → List·Memᴰ (toldAt place FRAME front) all → Stands line stream place front
 
--- where there is room, a writer that this is asked of writes the image of this content
+-- where there is room, this writer writes the image of this content
 abbrev pub Writes : (List ℕ → After) → List ℕ → Type 0
 Writes writer content = (out : List ℕ) → length (image content) ≤ length out → writer out ≡ putting content out
 
--- the identifier, command and data that a frame's front lists, on the addressed line with the address before them, and that the line's
--- writer, asked to write these, writes the image of this content
+-- What a front lists, and the content with its check that belongs to it: identifier, command and data, on the addressed line with an
+-- address before them that this station takes. The line's writer, asked to write these, writes the image of that content.
 pub data Fields : Line → List ℕ → List ℕ → Type 0 where
   onPoint : (identifier command : ℕ) («data» : List ℕ)
       → Writes (pointWritten identifier command «data») (pointContent identifier command «data»)

@@ -1,5 +1,6 @@
 -- The receiver's rules as a table: which turn a byte is, and when. `Laws.Turning` proves that `turn` answers by it, and that it leaves no
--- other answer.
+-- other answer. Which event a stop byte tells, the second half of rule 1, is `verdict`. A record that no call answers, such as one that
+-- is pending with no content byte on the addressed line, goes by the same rows.
 -- 01, How the receiver moves; the numbers are those of its rules. Assumes nothing.
 use Prim.Native.Nat.{ℕ, zero, suc, _-_, _≤_, _<_}
 use mathlib.Core.Path.{_≡_}

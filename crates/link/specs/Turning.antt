@@ -32,7 +32,7 @@ unfoldable pub contentByte : Line → ℕ → ℕ → Turn
 contentByte Point count b = plain count b
 contentByte (Addressed station) count b = cond (eqb count 0) (cond (takes station b) (kept count b) (Tell Addr)) (plain count b)
 
--- 1. FE ends the frame, unless it directly follows a pending FF: there it is a partner
+-- 1. FE ends the frame, unless it directly follows a pending FF
 unfoldable pub inside : Line → ℕ → ℕ → Turn
 inside line count b = cond (eqb b stop) Stop (contentByte line count b)
 
