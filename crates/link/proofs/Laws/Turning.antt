@@ -105,14 +105,14 @@ neither Point count b taken a = absurd a
 neither (Addressed station) zero b taken a = (ne-eqb b start (a .0), ne-eqb b stop (a .1))
 neither (Addressed station) (suc count) b taken a = absurd a
 
-plain-is : (line : Line) (count b : ℕ) → Later line count → special b ≡ false → kept count b ≡ turn line Inside count b
+plain-turn : (line : Line) (count b : ℕ) → Later line count → special b ≡ false → kept count b ≡ turn line Inside count b
 unfolding turn within inside plainTurn
-plain-is line count b later other =
+plain-turn line count b later other =
     rw (plain-ne b start other refl, plain-ne b stop other refl, later-content line count b later, plain-ne b 0xFF other refl)
 
-pair-is : (line : Line) (count b : ℕ) → b ≤ 0x02 → kept count (0xFF - b) ≡ turn line Pending count b
+pair-turn : (line : Line) (count b : ℕ) → b ≤ 0x02 → kept count (0xFF - b) ≡ turn line Pending count b
 unfolding turn within partner
-pair-is line count b known = rw (ne-eqb b start (omega arith), le-leb b 0x02 known)
+pair-turn line count b known = rw (ne-eqb b start (omega arith), le-leb b 0x02 known)
 
 pub rule-only : {line : Line} {count b : ℕ} {phase : Phase} {t : Turn} → ByRule line count b phase t → t ≡ turn line phase count b
 unfolding turn within inside plainTurn partner
@@ -126,11 +126,11 @@ rule-only {line} {count} {b} (noAddress a) =
     let n = neither line count b false a in
     rw (n .0, n .1) (noAddress-is line count b a)
 rule-only {line} {count} (waits later e) = rw (e, later-content line count 0xFF later)
-rule-only {line} {count} {b} (plain later other room) = kept-is count b room ∙ plain-is line count b later other
-rule-only {line} {count} {b} (pair known room) = kept-is count (0xFF - b) room ∙ pair-is line count b known
+rule-only {line} {count} {b} (plain later other room) = kept-is count b room ∙ plain-turn line count b later other
+rule-only {line} {count} {b} (pair known room) = kept-is count (0xFF - b) room ∙ pair-turn line count b known
 rule-only {b} (noPair over f) = rw (ne-eqb b start f, lt-leb b 0x02 over)
-rule-only {line} {count} {b} (longPlain later other full) = long-is count b full ∙ plain-is line count b later other
-rule-only {line} {count} {b} (longPair known full) = long-is count (0xFF - b) full ∙ pair-is line count b known
+rule-only {line} {count} {b} (longPlain later other full) = long-is count b full ∙ plain-turn line count b later other
+rule-only {line} {count} {b} (longPair known full) = long-is count (0xFF - b) full ∙ pair-turn line count b known
 
 -- ---- room for a byte that is kept
 

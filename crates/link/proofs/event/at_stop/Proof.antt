@@ -1,11 +1,11 @@
 -- `event::at_stop` meets its contract.
 -- Assumes nothing.
-use Rattle.link.proofs.Laws.Frame.{check-within}
 use mathlib.Core.Path.{sym, _∙_}
 use native.Mathlib.Omega.{arith}
 use borrow.Author.Tests.{lt-ltb, le-ltb}
-use Rattle.link.specs.Events.{verdict}
 use borrow.Author.Needs.{needs}
+use Rattle.link.specs.Events.{verdict}
+use Rattle.link.proofs.Laws.Frame.{check-within}
 use Rattle.link.proofs.event.at_stop.Statement.{statement}
 use Rattle.link.proofs.event.at_stop.Tie as tie
 

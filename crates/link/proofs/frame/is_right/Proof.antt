@@ -1,12 +1,12 @@
 -- `frame::is_right` meets its contract: byte for byte, what came is the check.
 -- Assumes nothing.
-use Rattle.link.proofs.Laws.Right.{low-wrong, low-right, right-sum}
 use mathlib.Core.Path.{sym, ap}
 use Prim.Native.Nat.{_+_}
 use native.Mathlib.Omega.{arith}
 use lib.Seq.{length-take-le}
-use Rattle.link.specs.Frame.{checkLength}
 use borrow.Author.Needs.{needs}
+use Rattle.link.specs.Frame.{checkLength}
+use Rattle.link.proofs.Laws.Right.{low-wrong, low-right, right-sum}
 use Rattle.link.proofs.frame.is_right.Statement.{statement}
 use Rattle.link.proofs.frame.is_right.Tie as tie
 

@@ -5,10 +5,10 @@ use mathlib.Core.List.{[], _∷_}
 use Prim.Native.Nat.{ℕ, _/_, _%_}
 use native.Mathlib.Omega.{arith}
 use lib.Seq.{length-take-le}
+use borrow.Author.Needs.{needs}
 use Rattle.link.specs.Laying.{laid}
 use Rattle.link.specs.Fcs.{fcsBytes}
 use Rattle.link.specs.Frame.{checkOf, checkLength}
-use borrow.Author.Needs.{needs}
 use Rattle.link.proofs.frame.lay_check.Statement.{statement}
 use Rattle.link.proofs.frame.lay_check.Tie as tie
 

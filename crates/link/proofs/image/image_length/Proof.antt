@@ -4,9 +4,9 @@ use Prim.Native.Nat.{_≤_, _<_}
 use native.Mathlib.Omega.{arith}
 use lib.ListN.{length}
 use borrow.Author.Tests.{lt-ltb, le-ltb}
+use borrow.Author.Needs.{needs}
 use Rattle.link.specs.Limits.{mostContent}
 use Rattle.link.specs.Writing.{lengthAsked}
-use borrow.Author.Needs.{needs}
 use Rattle.link.proofs.image.image_length.Statement.{statement}
 use Rattle.link.proofs.image.image_length.Tie as tie
 

@@ -1,8 +1,8 @@
 -- `image::wire_length` meets its contract: it adds what the image's length adds.
 -- Assumes nothing.
 use native.Mathlib.Omega.{arith}
-use Rattle.link.specs.Image.{imageLength}
 use borrow.Author.Needs.{needs}
+use Rattle.link.specs.Image.{imageLength}
 use Rattle.link.proofs.Laws.Stuffing.{specials-most}
 use Rattle.link.proofs.image.wire_length.Statement.{statement}
 use Rattle.link.proofs.image.wire_length.Tie as tie

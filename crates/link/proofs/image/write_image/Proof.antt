@@ -7,6 +7,7 @@ use native.Mathlib.Omega.{arith}
 use borrow.Author.Tests.{lt-ltb, le-ltb}
 use borrow.Rule.Slice.PartMut.{putMid}
 use lib.ListN.{length, set, length-set, length-take, length-drop}
+use borrow.Author.Needs.{needs}
 use Rattle.link.specs.Laying.{laid}
 use Rattle.link.specs.Stuffing.{stuffing}
 use Rattle.link.specs.Image.{start, stop, image}
@@ -14,7 +15,6 @@ use Rattle.link.specs.Refusals.{Answer, counted}
 use Rattle.link.specs.Writing.{leaving, imageWritten}
 use Rattle.link.proofs.Laws.Laying.{laid-part, length-laid}
 use Rattle.link.proofs.Laws.Image.{length-image, room-behind, image-laid}
-use borrow.Author.Needs.{needs}
 use Rattle.link.proofs.image.write_image.Statement.{statement}
 use Rattle.link.proofs.image.write_image.Tie as tie
 

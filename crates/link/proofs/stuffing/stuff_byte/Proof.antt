@@ -3,8 +3,8 @@
 use mathlib.Core.Path.{_≡_, ap, _∙_}
 use mathlib.Core.List.{[], _∷_}
 use Prim.Native.Nat.{_-_}
-use borrow.Author.Needs.{needs}
 use native.Mathlib.Omega.{arith}
+use borrow.Author.Needs.{needs}
 use lib.ListN.{length, length-set}
 use Rattle.link.specs.Stuffing.{stuffed}
 use Rattle.link.proofs.Laws.Laying.{set-laid, laid-next}

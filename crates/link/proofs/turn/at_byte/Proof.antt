@@ -1,8 +1,8 @@
 -- `turn::at_byte` meets its contract: FD first, then by where the receiver is.
 -- Assumes nothing.
 use borrow.Author.Tests.{eq-eqb, ne-eqb}
-use Rattle.link.specs.Turning.{within, turn}
 use borrow.Author.Needs.{needs}
+use Rattle.link.specs.Turning.{within, turn}
 use Rattle.link.proofs.turn.at_byte.Statement.{statement}
 use Rattle.link.proofs.turn.at_byte.Tie as tie
 

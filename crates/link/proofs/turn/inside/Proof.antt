@@ -3,8 +3,8 @@
 use mathlib.Core.Path.{sym, _∙_}
 use native.Mathlib.Omega.{arith}
 use borrow.Author.Tests.{eq-eqb, ne-eqb}
-use Rattle.link.specs.Turning.{contentByte, inside}
 use borrow.Author.Needs.{needs}
+use Rattle.link.specs.Turning.{contentByte, inside}
 use Rattle.link.proofs.turn.inside.Statement.{statement}
 use Rattle.link.proofs.turn.inside.Tie as tie
 

@@ -1,8 +1,8 @@
 -- `turn::partner` meets its contract.
 -- Assumes nothing.
 use borrow.Author.Tests.{le-leb, lt-leb}
-use Rattle.link.specs.Turning.{partner}
 use borrow.Author.Needs.{needs}
+use Rattle.link.specs.Turning.{partner}
 use Rattle.link.proofs.turn.partner.Statement.{statement}
 use Rattle.link.proofs.turn.partner.Tie as tie
 

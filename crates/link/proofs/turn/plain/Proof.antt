@@ -1,8 +1,8 @@
 -- `turn::plain` meets its contract.
 -- Assumes nothing.
 use borrow.Author.Tests.{eq-eqb, ne-eqb}
-use Rattle.link.specs.Turning.{plain}
 use borrow.Author.Needs.{needs}
+use Rattle.link.specs.Turning.{plain}
 use Rattle.link.proofs.turn.plain.Statement.{statement}
 use Rattle.link.proofs.turn.plain.Tie as tie
 

@@ -1,8 +1,8 @@
 -- `Receiver::addressed` meets its contract.
 -- Assumes nothing.
 use mathlib.Core.Path.{sym, _∙_}
-use Rattle.link.specs.Receiving.{freshMade}
 use borrow.Author.Needs.{needs}
+use Rattle.link.specs.Receiving.{freshMade}
 use Rattle.link.proofs.receiver.Receiver.addressed.Statement.{statement}
 use Rattle.link.proofs.receiver.Receiver.addressed.Tie as tie
 

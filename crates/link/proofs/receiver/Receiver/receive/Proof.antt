@@ -1,8 +1,8 @@
 -- `Receiver::receive` meets its contract: its tests are row 4 of the refusal table.
 -- Assumes nothing.
 use mathlib.Core.Path.{sym, _∙_}
-use Rattle.link.proofs.Laws.Receiving.{refuses-count, refuses-station, hears-piece}
 use borrow.Author.Needs.{needs}
+use Rattle.link.proofs.Laws.Receiving.{refuses-count, refuses-station, hears-piece}
 use Rattle.link.proofs.receiver.Receiver.receive.Statement.{statement}
 use Rattle.link.proofs.receiver.Receiver.receive.Tie as tie
 
