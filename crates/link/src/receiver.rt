@@ -125,9 +125,7 @@ impl Receiver {
                     phase = Phase::Inside;
                     count = 0;
                 }
-                Turn::Wait => {
-                    phase = Phase::Pending;
-                }
+                Turn::Wait => phase = Phase::Pending,
                 Turn::Keep(byte) => {
                     content[count] = byte;
                     phase = Phase::Inside;
