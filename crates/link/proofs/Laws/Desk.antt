@@ -29,7 +29,7 @@ use Rattle.link.specs.Hearing.{Told, toldAt, note}
 use Rattle.link.specs.Listing.{Stands}
 use Rattle.link.proofs.Laws.Choice.{cond-elim}
 use Rattle.link.proofs.Laws.Address.{takes-plain}
-use Rattle.link.proofs.Laws.Stuffing.{stuffed-other, stuffed-special}
+use Rattle.link.proofs.Laws.Stuffing.{stuffed-other, stuffed-special, stuffing-append}
 use Rattle.link.proofs.Laws.Right.{right-withCheck}
 use Rattle.link.proofs.Laws.Turning.{turn-rule, address-room}
 use Rattle.link.proofs.Laws.View.{View, view, turns, next, noted}
@@ -85,11 +85,6 @@ taken-later : (line : Line) (k : List ℕ) (b : ℕ) → Taken line k → Later 
 taken-later Point k b taken l = tt
 taken-later (Addressed station) [] b taken l = absurd l
 taken-later (Addressed station) (a ∷ k) b taken l = taken
-
-stuffing-append : (k l : List ℕ) → stuffing (k ++ l) ≡ stuffing k ++ stuffing l
-unfolding stuffing
-stuffing-append [] l = refl
-stuffing-append (b ∷ k) l = rw (stuffing-append k l, append-assoc)
 
 wire-more : (k : List ℕ) (b : ℕ) → wire k ++ stuffed b ≡ wire (k ++ (b ∷ []))
 unfolding stuffing

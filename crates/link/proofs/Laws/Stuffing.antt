@@ -2,7 +2,7 @@
 -- Assumes nothing.
 use mathlib.Core.Path.{_≡_, refl, sym, ap, _∙_, subst}
 use mathlib.Core.Bool.{true, false, cond, true≢false}
-use mathlib.Core.List.{List, [], _∷_, List·Memᴰ, List·Memᴰ·not-nil, List·Memᴰ·cases-cons, List·Memᴰ·append-cases}
+use mathlib.Core.List.{List, [], _∷_, _++_, append-assoc, List·Memᴰ, List·Memᴰ·not-nil, List·Memᴰ·cases-cons, List·Memᴰ·append-cases}
 use mathlib.Core.Logic.{⊎-elim}
 use Prim.Native.Nat.{ℕ, _+_, _-_, _≤_, _<_, zero-le}
 use native.Mathlib.Nat.{zero-add}
@@ -61,6 +61,12 @@ stuffed-plain b h = stuffed-other b (plain-is b h)
 pub stuffed-special : (b : ℕ) → 0xFD ≤ b → b < 0x100 → stuffed b ≡ 0xFF ∷ (0xFF - b) ∷ []
 unfolding stuffed
 stuffed-special b least most = by-special (λ (n : ℕ). stuffed n ≡ 0xFF ∷ (0xFF - n) ∷ []) b least most refl refl refl
+
+-- one content behind the other
+pub stuffing-append : (k l : List ℕ) → stuffing (k ++ l) ≡ stuffing k ++ stuffing l
+unfolding stuffing
+stuffing-append [] l = refl
+stuffing-append (b ∷ k) l = rw (stuffing-append k l, append-assoc)
 
 -- the count goes up by one at FD, FE and FF, and at no other byte
 pub specials-plain : (b : ℕ) (s : List ℕ) → b < 0xFD → specials (b ∷ s) ≡ specials s
