@@ -33,18 +33,19 @@ agree-same true false e = absurd (omega arith)
 agree-same false true e = absurd (omega arith)
 agree-same false false e = refl
 
+-- and so do they at each byte, if they do at all of them
+same-tests : (s t : ℕ → Bool) → lists (λ (b : ℕ). cond (agree (s b) (t b)) 1 0) 0 (replicate 0x100 1) ≡ true
+    → (a : ℕ) → a < 0x100 → s a ≡ t a
+same-tests s t test a h = agree-same (s a) (t a) (each-byte (λ (b : ℕ). cond (agree (s b) (t b)) 1 0) test a h)
+
 -- what a station may have: all but broadcast and what is never an address
 pub station-is : (a : ℕ) → a < 0x100 → isStation a ≡ not (isBroadcast a) && leb a 0xFC
-station-is a h =
-    agree-same (isStation a) (not (isBroadcast a) && leb a 0xFC)
-    (each-byte (λ (b : ℕ). cond (agree (isStation b) (not (isBroadcast b) && leb b 0xFC)) 1 0) refl a h)
+station-is = same-tests (λ (a : ℕ). isStation a) (λ (a : ℕ). not (isBroadcast a) && leb a 0xFC) refl
 
 -- so what no station may have is broadcast or never an address
 pub station-kinds : (a : ℕ) → a < 0x100 → (why : ℕ) → cond (isStation a) 0 why ≡ cond (isBroadcast a || isNever a) why 0
 station-kinds a h why =
-    rw
-    (agree-same (isStation a) (not (isBroadcast a || isNever a))
-    (each-byte (λ (b : ℕ). cond (agree (isStation b) (not (isBroadcast b || isNever b))) 1 0) refl a h))
+    rw (same-tests (λ (b : ℕ). isStation b) (λ (b : ℕ). not (isBroadcast b || isNever b)) refl a h)
     (cond-not (isBroadcast a || isNever a) 0 why)
 
 -- a station takes no byte that stuffing changes

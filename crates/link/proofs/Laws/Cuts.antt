@@ -14,9 +14,8 @@ use Rattle.link.specs.declared.receiver.Heard.{Heard}
 use Rattle.link.specs.Line.{hasStation}
 use Rattle.link.specs.Receiving.{Said, saying, turnAt, moved, hasEvent, outcomeAt, answering, heard, received}
 use Rattle.link.specs.Hearing.{Told, note, tells, Hearing, over, call}
-use Rattle.link.proofs.Laws.Turning.{turn-room}
 use Rattle.link.proofs.Laws.Receiving.{heard-elim, hears-piece}
-use Rattle.link.proofs.Laws.Fit.{Fit, fit-moved}
+use Rattle.link.proofs.Laws.Fit.{room-at, Fit, fit-at}
 use Rattle.link.proofs.Laws.View.{View, seen, turns, next, noted, turns-seen, seen-moved, noted-seen, quiet}
 
 -- what the bytes tell one by one, from behind a place on
@@ -29,7 +28,7 @@ tell-record : {line : Line} {s : Receiver} → Fit line s → (at b : ℕ) (l : 
     → tell line (seen s) at (b ∷ l) ≡ noted line (seen s) (at + 1) (turnAt s b) ++ tell line (seen (moved s (turnAt s b))) (at + 1) l
 unfolding tell
 tell-record {line} {s} fit at b l =
-    rw (seen-moved fit (turnAt s b) (turn-room (s .line) (s .phase) (s .count) b), turns-seen fit b)
+    rw (seen-moved fit (turnAt s b) (room-at s b), turns-seen fit b)
 
 module _ (line : Line) (stream : List ℕ) (before : ℕ) where
   -- one call, which has taken some bytes, tells the next bytes up to its event, and leaves the others
@@ -39,16 +38,19 @@ module _ (line : Line) (stream : List ℕ) (before : ℕ) where
       × (tells before said ++ tell line (seen (said .receiver)) (before + said .taken) (drop (before + said .taken) stream)
       ≡ tell line (seen s) (before + taken) l)
 
+  -- the place of the next byte, counted from the stream's start and from the call's
+  shift : (taken : ℕ) → before + (taken + 1) ≡ before + taken + 1
+  shift taken = omega arith
+
   event-tells : {s : Receiver} → Fit line s → (b : ℕ) (l : List ℕ) (taken : ℕ) → drop (before + (taken + 1)) stream ≡ l
       → let t = turnAt s b in
       Tells (answering (moved s t) (outcomeAt s t) (taken + 1)) taken s (b ∷ l)
   unfolding tells
   event-tells {s} fit b l taken left =
-      let t = turnAt s b in
-      let shift : before + (taken + 1) ≡ before + taken + 1 = omega arith in (
-        fit-moved fit t (turn-room (s .line) (s .phase) (s .count) b),
+      let t = turnAt s b in (
+        fit-at fit b,
         ap₂ _++_ (noted-seen fit (before + (taken + 1)) t) (ap (tell line (seen (moved s t)) (before + (taken + 1))) left)
-            ∙ ap (λ (n : ℕ). noted line (seen s) n t ++ tell line (seen (moved s t)) n l) shift
+            ∙ ap (λ (n : ℕ). noted line (seen s) n t ++ tell line (seen (moved s t)) n l) (shift taken)
             ∙ sym (tell-record fit (before + taken) b l),
       )
 
@@ -57,19 +59,17 @@ module _ (line : Line) (stream : List ℕ) (before : ℕ) where
       → Tells said (taken + 1) (moved s (turnAt s b)) l
       → Tells said taken s (b ∷ l)
   on-tells {s} fit b l taken said none rest =
-      let t = turnAt s b in
-      let shift : before + (taken + 1) ≡ before + taken + 1 = omega arith in (
+      let t = turnAt s b in (
         rest .0,
         rest .1
-            ∙ ap (λ (n : ℕ). tell line (seen (moved s t)) n l) shift
+            ∙ ap (λ (n : ℕ). tell line (seen (moved s t)) n l) (shift taken)
             ∙ ap (λ (e : List Told). e ++ tell line (seen (moved s t)) (before + taken + 1) l) (sym (quiet line (seen s) (before + taken + 1) t none))
             ∙ sym (tell-record fit (before + taken) b l),
       )
 
   left-next : (b : ℕ) (l : List ℕ) (taken : ℕ) → drop (before + taken) stream ≡ b ∷ l → drop (before + (taken + 1)) stream ≡ l
   left-next b l taken left =
-      let shift : before + (taken + 1) ≡ before + taken + 1 = omega arith in
-      ap (λ (n : ℕ). drop n stream) shift ∙ sym (drop-drop 1 (before + taken) stream) ∙ ap (drop 1) left
+      ap (λ (n : ℕ). drop n stream) (shift taken) ∙ sym (drop-drop 1 (before + taken) stream) ∙ ap (drop 1) left
 
   heard-tells : (rest piece : List ℕ) (taken : ℕ) (s : Receiver) → Fit line s → drop (before + taken) stream ≡ piece ++ rest
       → Tells (heard taken s piece) taken s (piece ++ rest)
@@ -81,7 +81,7 @@ module _ (line : Line) (stream : List ℕ) (before : ℕ) where
       (λ taken s fit left. (fit, ap (tell line (seen s) (before + taken)) left))
       (λ taken s b bs y fit left. event-tells fit b (bs ++ rest) taken (left-next b (bs ++ rest) taken left))
       (λ taken s b bs said n h fit left. on-tells fit b (bs ++ rest) taken said n
-      (h (fit-moved fit (turnAt s b) (turn-room (s .line) (s .phase) (s .count) b)) (left-next b (bs ++ rest) taken left)))
+      (h (fit-at fit b) (left-next b (bs ++ rest) taken left)))
 
 module _ {line : Line} (good : hasStation line ≡ true) (stream : List ℕ) where
   -- one call, by its statement

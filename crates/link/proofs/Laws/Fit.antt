@@ -1,4 +1,4 @@
--- What a turn leaves of a receiver's record: its line, a count within the limit and a full array.
+-- What a turn leaves of a receiver's record: its line, a count within the limit and a full array; and how much its event carries.
 -- Assumes nothing.
 use mathlib.Core.Path.{_≡_, refl, _∙_}
 use mathlib.Core.List.{List}
@@ -13,9 +13,9 @@ use Rattle.link.specs.declared.turn.Turn.the-variants.{Rest, Begin, Wait
 use Rattle.link.specs.declared.receiver.Receiver.{Receiver}
 use Rattle.link.specs.Limits.{mostContent}
 use Rattle.link.specs.Events.{tooShort, verdict}
-use Rattle.link.specs.Receiving.{fresh, moved, outcome}
+use Rattle.link.specs.Receiving.{fresh, turnAt, moved, outcome}
 use Rattle.link.proofs.Laws.Choice.{cond-elim}
-use Rattle.link.proofs.Laws.Turning.{Room}
+use Rattle.link.proofs.Laws.Turning.{Room, turn-room}
 
 -- ---- an event carries no more than was kept
 
@@ -62,6 +62,10 @@ sized-moved s (Keep b) = length-set (s .content) (s .count) b
 sized-moved s Stop = refl
 sized-moved s (Tell why) = refl
 
+-- a byte that is kept has room
+pub room-at : (s : Receiver) (b : ℕ) → Room (s .count) (turnAt s b)
+room-at s b = turn-room (s .line) (s .phase) (s .count) b
+
 pub record Fit (line : Line) (s : Receiver) : Type 0 where
   pub on : s .line ≡ line
   pub sized : length (s .content) ≡ mostContent
@@ -73,3 +77,6 @@ fresh-fit line = record { on = refl; sized = length-replicate {A = ℕ} mostCont
 pub fit-moved : {line : Line} {s : Receiver} → Fit line s → (t : Turn) → Room (s .count) t → Fit line (moved s t)
 fit-moved {s} fit t room =
     record { on = line-moved s t ∙ fit .on; sized = sized-moved s t ∙ fit .sized; within = count-moved s t room (fit .within) }
+
+pub fit-at : {line : Line} {s : Receiver} → Fit line s → (b : ℕ) → Fit line (moved s (turnAt s b))
+fit-at {s} fit b = fit-moved fit (turnAt s b) (room-at s b)

@@ -26,8 +26,8 @@ use Rattle.link.specs.Rules.{ByRule, ignored, begins, stops, address, no
 use Rattle.link.specs.Receiving.{soFar, turnAt, moved, hasEvent, outcome, outcomeAt, answering, heard, badState, refusedState, Said, received}
 use Rattle.link.proofs.Laws.Choice.{cond-elim, or-none}
 use Rattle.link.proofs.Laws.Lists.{drop-next}
-use Rattle.link.proofs.Laws.Turning.{Room, turn-rule, turn-room}
-use Rattle.link.proofs.Laws.Fit.{outcome-length, count-moved, line-moved, Fit, fit-moved}
+use Rattle.link.proofs.Laws.Turning.{Room, turn-rule}
+use Rattle.link.proofs.Laws.Fit.{outcome-length, line-moved, count-moved, room-at, Fit, fit-moved}
 
 -- ---- the piece byte by byte
 
@@ -159,7 +159,7 @@ heard-stays =
     record { count = r .count; line = r .line ∙ line-moved s (turnAt s b); carries = r .carries })
   where
     moved-within : (s : Receiver) (b : ℕ) → s .count ≤ mostContent → moved s (turnAt s b) .count ≤ mostContent
-    moved-within s b within = count-moved s (turnAt s b) (turn-room (s .line) (s .phase) (s .count) b) within
+    moved-within s b within = count-moved s (turnAt s b) (room-at s b) within
 
 pub stays-good : (s : Receiver) (piece : List ℕ) → badState s ≡ false → badState (received s piece .receiver) ≡ false
 unfolding received
@@ -197,7 +197,7 @@ module _ {piece : List ℕ} {first : Receiver} {taken : ℕ} {s : Receiver} (goi
     next-byte none =
         record {
           part = omega arith;
-          fit = fit-moved (going .fit) t (subst⁻¹ (Room (s .count)) is (turn-room (s .line) (s .phase) (s .count) (getD piece taken 0)));
+          fit = fit-moved (going .fit) t (subst⁻¹ (Room (s .count)) is (room-at s (getD piece taken 0)));
           same = rw (drop-next piece taken more, ← is, none) at (going .same);
         }
 
