@@ -50,21 +50,19 @@ pub(crate) fn is_right(check: Check, content: &[u8], front: usize) -> bool
     }
 }
 
-// Lays the check of the first `front` bytes of `content` behind them, and answers the place behind it.
-fn lay_check(check: Check, content: &mut [u8], front: usize) -> usize
+// Lays the check of the first `front` bytes of `content` behind them.
+fn lay_check(check: Check, content: &mut [u8], front: usize)
     requires { ⌜ front + checkLength check ≤ length (now content) ⌝ }
-    ensures { λ r. ⌜ (r ≡ front + checkLength check) × (now (content .exit) ≡ laid (now (content .entry)) front (checkOf check (take front (now (content .entry))))) ⌝ }
+    ensures { λ _. ⌜ now (content .exit) ≡ laid (now (content .entry)) front (checkOf check (take front (now (content .entry)))) ⌝ }
 {
     match check {
         Check::Fcs => {
             let value = fcs(&content[..front]);
             lay(content, front, &[(value % 256) as u8, (value / 256) as u8]);
-            front + 2
         }
         Check::Sum => {
             let value = sum(&content[..front]);
             lay(content, front, &[value]);
-            front + 1
         }
     }
 }
@@ -77,6 +75,8 @@ pub(crate) fn write_frame(check: Check, head: &[u8], data: &[u8], out: &mut [u8]
     let mut content = [0u8; MOST_CONTENT];
     lay(&mut content, 0, head);
     lay(&mut content, head.len(), data);
-    let end = lay_check(check, &mut content, head.len() + data.len());
+    let front = head.len() + data.len();
+    lay_check(check, &mut content, front);
+    let end = front + check_length(check);
     write_image(&content[..end], out)
 }

@@ -1,6 +1,6 @@
 -- `frame::lay_check` meets its contract: in each arm the check called is the one that the arm names.
 -- Assumes nothing.
-use mathlib.Core.Path.{refl, sym, ap, _∙_}
+use mathlib.Core.Path.{sym, ap, _∙_}
 use mathlib.Core.List.{[], _∷_}
 use Prim.Native.Nat.{ℕ, _/_, _%_}
 use native.Mathlib.Omega.{arith}
@@ -24,20 +24,17 @@ slice-aggregate-fcs c = sym (length-take-le _ _ (omega arith))
 fcs-requires : tie.Need-fcs-requires
 fcs-requires c κs = search needs
 
-cast-t14 : tie.Need-cast-t14
-cast-t14 c = search needs
+cast-t13 : tie.Need-cast-t13
+cast-t13 c = search needs
 
-cast-t16 : tie.Need-cast-t16
-cast-t16 c = search needs
+cast-t15 : tie.Need-cast-t15
+cast-t15 c = search needs
 
 slice-aggregate-lay : tie.Need-slice-aggregate-lay
 slice-aggregate-lay c = search needs
 
 lay-requires : tie.Need-lay-requires
 lay-requires c κs = omega (arith, ap checkLength (c .before .before .before .before .enum-told .given .1))
-
-add-result : tie.Need-add-result
-add-result c = search needs
 
 enum-told-2 : tie.Need-enum-told-2
 enum-told-2 c = search needs
@@ -57,9 +54,6 @@ slice-aggregate-lay-2 c = search needs
 lay-requires-2 : tie.Need-lay-requires-2
 lay-requires-2 c κs = omega (arith, ap checkLength (c .before .before .before .before .enum-told2 .given .1))
 
-add-result-2 : tie.Need-add-result-2
-add-result-2 c = search needs
-
 same-length : tie.Need-same-length
 same-length c = search needs
 
@@ -67,12 +61,10 @@ returns : tie.Need-returns
 unfolding checkOf fcsBytes
 returns c =
     let d = c .before .before .before .before .before .before .before in
-    rw (d .enum-told .given .1) (
-      refl,
-      c .before .before .lay .ensures
-          ∙ ap (λ (v : ℕ). laid (d .before .before .before .args .content .now) (d .before .before .before .args .front) (v % 0x100 ∷ v / 0x100 ∷ []))
-          (c .before .before .before .before .before .fcs .ensures),
-    )
+    let a = d .before .before .before .args in
+    rw (d .enum-told .given .1)
+    (c .before .before .lay .ensures
+    ∙ ap (λ (v : ℕ). laid (a .content .now) (a .front) (v % 0x100 ∷ v / 0x100 ∷ [])) (c .before .before .before .before .before .fcs .ensures))
 
 same-length-2 : tie.Need-same-length-2
 same-length-2 c = search needs
@@ -81,12 +73,10 @@ returns-2 : tie.Need-returns-2
 unfolding checkOf
 returns-2 c =
     let d = c .before .before .before .before .before .before .before in
-    rw (d .enum-told2 .given .1) (
-      refl,
-      c .before .before .lay2 .ensures
-          ∙ ap (λ (v : ℕ). laid (d .before .before .before .args .content .now) (d .before .before .before .args .front) (v ∷ []))
-          (c .before .before .before .before .before .sum .ensures),
-    )
+    let a = d .before .before .before .args in
+    rw (d .enum-told2 .given .1)
+    (c .before .before .lay2 .ensures
+    ∙ ap (λ (v : ℕ). laid (a .content .now) (a .front) (v ∷ [])) (c .before .before .before .before .before .sum .ensures))
 
 pub lay-check-spec : {M : Type 1} → statement M
 lay-check-spec =
@@ -96,18 +86,16 @@ lay-check-spec =
     slice-reshare-prefix-fcs
     slice-aggregate-fcs
     fcs-requires
-    cast-t14
-    cast-t16
+    cast-t13
+    cast-t15
     slice-aggregate-lay
     lay-requires
-    add-result
     enum-told-2
     slice-reshare-prefix-sum
     slice-aggregate-sum
     sum-requires
     slice-aggregate-lay-2
     lay-requires-2
-    add-result-2
     same-length
     returns
     same-length-2

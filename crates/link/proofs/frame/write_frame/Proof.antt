@@ -14,22 +14,26 @@ use Rattle.link.proofs.frame.write_frame.Tie as tie
 
 -- the function's entry, from the place where the content is whole
 entry : tie.After-content7 → tie.Start
-entry c = c .before .before .before .before .before .before .before .before .before .before .before .before .before
+entry c = c .before .before .before .before .before .before .before .before .before .before .before .before .before .before
+
+-- the place behind the check
+end : tie.After-content7 → ℕ
+end c = length (entry c .args .head .now) + length (entry c .args .«data» .now) + c .before .check-length .result
 
 content-is : (c : tie.After-content7)
-    → take (c .before .before .lay-check .result) (c .before .before .lay-check .last .1 .0)
+    → take (end c) (c .before .before .before .lay-check .last .1 .0)
     ≡ withCheck (entry c .args .check) (entry c .args .head .now ++ entry c .args .«data» .now)
-unfolding entry
+unfolding entry end
 content-is c =
-    let d = c .before .before .before .before .before in
+    let d = c .before .before .before in
     withCheck-laid _ (entry c .args .check) (entry c .args .head .now) (entry c .args .«data» .now)
-    (d .before .before .before .lay .ensures)
-    (d .lay2 .ensures)
-    (c .before .before .lay-check .ensures .1)
-    (c .before .before .lay-check .ensures .0)
+    (d .before .before .before .before .before .before .lay .ensures)
+    (d .before .before .before .lay2 .ensures)
+    (d .lay-check .ensures)
+    (ap (λ (n : ℕ). length (entry c .args .head .now) + length (entry c .args .«data» .now) + n) (c .before .check-length .ensures))
 
 length-is : (c : tie.After-content7)
-    → length (take (c .before .before .lay-check .result) (c .before .before .lay-check .last .1 .0))
+    → length (take (end c) (c .before .before .before .lay-check .last .1 .0))
     ≡ length (entry c .args .head .now) + length (entry c .args .«data» .now) + checkLength (entry c .args .check)
 length-is c = rw (content-is c, length-withCheck, length-append)
 
@@ -45,31 +49,39 @@ slice-aggregate-lay-2 c = search needs
 lay-requires-2 : tie.Need-lay-requires-2
 lay-requires-2 c κs = search needs
 
+add-front : tie.Need-add-front
+add-front c = search needs
+
 slice-aggregate-lay-check : tie.Need-slice-aggregate-lay-check
 slice-aggregate-lay-check c = search needs
 
-add-lay-check : tie.Need-add-lay-check
-add-lay-check c = search needs
-
 lay-check-requires : tie.Need-lay-check-requires
 lay-check-requires c κs = search needs
+
+check-length-requires : tie.Need-check-length-requires
+check-length-requires c κs = search needs
+
+add-end : tie.Need-add-end
+add-end c = search needs
 
 array-share-prefix-content : tie.Need-array-share-prefix-content
 array-share-prefix-content c = search needs
 
 slice-aggregate-write-image : tie.Need-slice-aggregate-write-image
-unfolding entry
-slice-aggregate-write-image c = c .before .before .lay-check .ensures .0 ∙ sym (length-is c)
+unfolding entry end
+slice-aggregate-write-image c =
+    let n : ℕ = length (entry c .args .head .now) + length (entry c .args .«data» .now) in
+    ap (λ (k : ℕ). n + k) (c .before .check-length .ensures) ∙ sym (length-is c)
 
 write-image-requires : tie.Need-write-image-requires
-unfolding entry
+unfolding entry end
 write-image-requires c κs = omega (arith, length-is (c .before), entry (c .before) .pre)
 
 same-length : tie.Need-same-length
 same-length c = search needs
 
 returns : tie.Need-returns
-unfolding entry
+unfolding entry end
 returns c =
     let d = c .before .before in
     d .write-image .ensures ∙ ap (λ (s : List ℕ). imageWritten s (entry (d .before .before) .args .out .now)) (content-is (d .before .before))
@@ -82,9 +94,11 @@ write-frame-spec =
     lay-requires
     slice-aggregate-lay-2
     lay-requires-2
+    add-front
     slice-aggregate-lay-check
-    add-lay-check
     lay-check-requires
+    check-length-requires
+    add-end
     array-share-prefix-content
     slice-aggregate-write-image
     write-image-requires
