@@ -2,8 +2,8 @@
 -- Read Stuffing, Image, Fcs, Sum, Address, Line and Frame beside document 01, 'Layout of a frame'; Refusals and Writing beside 'Refusal
 -- numbers'; Events, Turning, Rules and Receiving beside 'How the receiver moves'; Hearing and Listing as the rule that crew and desk signed;
 -- Examples beside 'Bench examples'.
--- Laying serves contracts inside the library only. A byte is a number; no definition asks that it be below 256, since the contracts
--- hand over bytes.
+-- Laying serves contracts of private functions, here and in the crates above. A byte is a number; no definition asks that it be below
+-- 256, since the contracts hand over bytes.
 pub mod Limits
 pub mod Laying
 pub mod Stuffing

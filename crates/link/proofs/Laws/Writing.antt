@@ -71,6 +71,12 @@ module _ (identifier command : ℕ) («data» out : List ℕ) where
   unfolding pointWritten
   point-by-table = by-table false «data» (pointContent identifier command «data») out
 
+  -- data within the limit leaves only the room to be refused
+  pub point-goes-on : length «data» ≤ mostData
+      → pointWritten identifier command «data» out ≡ imageWritten (pointContent identifier command «data») out
+  unfolding pointWritten
+  point-goes-on fits = goes-on false «data» (pointContent identifier command «data») out fits refl
+
   pub point-writes : length «data» ≤ mostData → length (image (pointContent identifier command «data»)) ≤ length out
       → pointWritten identifier command «data» out ≡ putting (pointContent identifier command «data») out
   unfolding pointWritten
