@@ -1,0 +1,259 @@
+-- A reader's record agrees with what its calls told, and each call keeps it so and sends what is meant.
+-- Assumes nothing.
+use mathlib.Core.Path.{_≡_, refl, sym, ap, subst, subst⁻¹, _∙_}
+use mathlib.Core.Bool.{Bool, true, false, cond, true≢false}
+use mathlib.Core.List.{List, []}
+use mathlib.Core.Option.{Option, none, some, Option·map}
+use Prim.Native.Nat.{ℕ, _≤_}
+use native.Mathlib.Omega.{arith}
+use lib.Dec.{eqb}
+use lib.ListN.{length, getD, take, drop}
+use lib.Seq.{take-at}
+use borrow.Author.Tests.{eqb-true, le-ltb}
+use Rattle.link.specs.Limits.{mostData}
+use Rattle.reader.specs.declared.asking.Asking.{Asking}
+use Rattle.reader.specs.declared.asking.Asking.the-variants.{Nothing, Wrong, Right}
+use Rattle.reader.specs.declared.parameter.Parameter.{Parameter}
+use Rattle.reader.specs.declared.parameter.Parameter.the-variants.{Speed, Settings, Cell}
+use Rattle.reader.specs.declared.buffer.Buffer.the-variants.{Out, Store}
+use Rattle.reader.specs.declared.command.Command.{Command}
+use Rattle.reader.specs.declared.command.Acceptance.{Acceptance}
+use Rattle.reader.specs.declared.command.Acceptance.the-variants.{Accepted, Refused}
+use Rattle.reader.specs.declared.memory.Memory.{Memory}
+use Rattle.reader.specs.declared.memory.Memory.the-variants.{None, Last}
+use Rattle.reader.specs.declared.memory.Repeat.the-variants.{New, Stored}
+use Rattle.reader.specs.declared.reader.Reader.{Reader}
+use Rattle.reader.specs.Limits.{room, headerLength}
+use Rattle.reader.specs.Copying.{onto}
+use Rattle.reader.specs.Parameters.{lengthOf, isSpeed, valueOf}
+use Rattle.reader.specs.Acceptance.{acceptance, nackOf, Carries}
+use Rattle.reader.specs.Memory.{find, tooFar}
+use Rattle.reader.specs.Replies.{NACK, sign, dataIn, wire, replyTo}
+use Rattle.reader.specs.Answering.{being, fresh, badState, Answered, Lent, sending, nacked, executed, judged, recalled, framed, stepped}
+use Rattle.reader.specs.Sending.{sent}
+use Rattle.reader.specs.Sessions.{Executed, wireOf, History, begun, forgetting, repeats, judgedNext, next, judgedReply, bytesOf, toSend, isRepeat, Kept}
+use Rattle.reader.proofs.Laws.Choice.{by-test, and-both}
+use Rattle.reader.proofs.Laws.Acceptance.{accepts, carries}
+use Rattle.reader.proofs.Laws.Replies.{point-room}
+use Rattle.reader.proofs.Laws.Answering.{framed-by}
+use Rattle.reader.proofs.Laws.Sending.{sent-none, sent-out, sent-store}
+use Rattle.reader.proofs.Laws.Executing.{done-values, done-speed, done-sized, reply-fits}
+
+-- the memory that belongs to a last command
+abbrev pub memoryOf : Option Executed → Memory
+memoryOf none = None
+memoryOf (some e) = Last (e .identifier) (e .code) (length (wireOf e))
+
+-- its reply fits a frame
+abbrev pub Fits : Option Executed → Type 0
+Fits none = Unit {0}
+Fits (some e) = length (dataIn (e .reply)) ≤ mostData
+
+-- and stands in the store, where nobody else writes to it
+abbrev InStore : Bool → List ℕ → Option Executed → Type 0
+InStore false held last = Unit {0}
+InStore true held none = Unit {0}
+InStore true held (some e) = take (length (wireOf e)) held ≡ wireOf e
+
+pub record Agrees (alone : Bool) (s : Reader) (held : List ℕ) (h : History) : Type 0 where
+  pub values : valueOf (s .parameters) ≡ h .value
+  pub sized : (p : Parameter) → length (h .value p) ≡ lengthOf p
+  pub speed : isSpeed (s .parameters .speed) ≡ true
+  pub memory : s .memory ≡ memoryOf (h .last)
+  pub fits : Fits (h .last)
+  pub stored : InStore alone held (h .last)
+
+none-stored : (alone : Bool) (held : List ℕ) → InStore alone held none
+none-stored true held = tt
+none-stored false held = tt
+
+-- ---- a fresh reader, and what good a record is
+
+pub agrees-fresh : (alone : Bool) (store : List ℕ) → Agrees alone fresh store begun
+agrees-fresh alone store =
+    record { values = λ i p. first p i; sized = sized; speed = refl; memory = refl; fits = tt; stored = none-stored alone store }
+  where
+    first : (p : Parameter) → valueOf (fresh .parameters) p ≡ begun .value p
+    first Speed = refl
+    first Settings = refl
+    first Cell = refl
+
+    sized : (p : Parameter) → length (begun .value p) ≡ lengthOf p
+    sized Speed = refl
+    sized Settings = refl
+    sized Cell = refl
+
+pub agrees-powered : {alone : Bool} {s : Reader} {held : List ℕ} {h : History} → Agrees alone s held h
+    → Agrees alone (being (s .parameters) None) held (forgetting h)
+agrees-powered {alone} {held = held} a =
+    record { values = a .values; sized = a .sized; speed = a .speed; memory = refl; fits = tt; stored = none-stored alone held }
+
+pub wire-room : (e : Executed) → length (dataIn (e .reply)) ≤ mostData → length (wireOf e) ≤ room
+wire-room e fits = point-room (e .identifier) _ (dataIn (e .reply)) fits
+
+pub agrees-good : {alone : Bool} {s : Reader} {held : List ℕ} {h : History} → Agrees alone s held h → badState s ≡ false
+agrees-good {s} {h} a = rw (a .speed, a .memory) (of (h .last) (a .fits))
+  where
+    of : (last : Option Executed) → Fits last → tooFar (memoryOf last) ≡ false
+    of none fits = refl
+    of (some e) fits = le-ltb room (length (wireOf e)) (wire-room e fits)
+
+-- the store that a call is lent is as good as the one held
+pub agrees-lent : (alone : Bool) {s : Reader} {held store : List ℕ} {h : History} → Agrees alone s held h → Kept alone held store
+    → Agrees alone s store h
+agrees-lent true {s} {h = h} a same = subst (λ (l : List ℕ). Agrees true s l h) same a
+agrees-lent false a same =
+    record { values = a .values; sized = a .sized; speed = a .speed; memory = a .memory; fits = a .fits; stored = tt }
+
+-- a reply copied to the front of the store stands there
+stored-onto : (alone : Bool) (e : Executed) (store : List ℕ) → InStore alone (onto (wireOf e) store) (some e)
+stored-onto false e store = tt
+stored-onto true e store = take-at (wireOf e) (drop (length (wireOf e)) store) (length (wireOf e)) refl
+
+-- ---- step 3, by what is told
+
+module _ (s : Reader) (header antenna store out content : List ℕ) where
+  abbrev pub recalledAs : Option Executed → Answered
+  recalledAs none = sending s Out 0 store out
+  recalledAs (some e) = sending s Store (length (wireOf e)) store out
+
+  abbrev pub judgedAs : Answered
+  judgedAs =
+      judged s header antenna store out (getD content 0 0) (getD content 1 0) (drop 2 content)
+      (acceptance (getD content 1 0) (drop 2 content))
+
+  pub framed-told : (last : Option Executed) → s .memory ≡ memoryOf last
+      → framed s header antenna store out content ≡ cond (repeats last (getD content 0 0) (getD content 1 0)) (recalledAs last) judgedAs
+  framed-told last remembered =
+      framed-by s header antenna store out content (find (memoryOf last) (getD content 0 0) (getD content 1 0))
+      (ap (λ (m : Memory). find m (getD content 0 0) (getD content 1 0)) remembered)
+      ∙ of last
+    where
+      of : (l : Option Executed)
+          → recalled s header antenna store out (getD content 0 0) (getD content 1 0) (drop 2 content)
+          (find (memoryOf l) (getD content 0 0) (getD content 1 0))
+          ≡ cond (repeats l (getD content 0 0) (getD content 1 0)) (recalledAs l) judgedAs
+      of none = refl
+      of (some e) =
+          by-test
+          (λ (t : Bool). recalled s header antenna store out (getD content 0 0) (getD content 1 0) (drop 2 content)
+          (cond t (Stored (length (wireOf e))) New)
+          ≡ cond t (recalledAs (some e)) judgedAs)
+          (repeats (some e) (getD content 0 0) (getD content 1 0)) (λ _. refl) (λ _. refl)
+
+-- ---- one call that is not refused: the record agrees with what is told next, and what is sent is meant
+
+pub record Told (alone : Bool) (h : History) (bytes : List ℕ) (again : Bool) (a : Answered) : Type 0 where
+  pub none : a .refusal ≡ 0
+  pub agrees : Agrees alone (a .reader) (a .store) h
+  pub sends : (again ≡ true → alone ≡ true) → sent (a .buffer) (a .length) (a .store) (a .out) ≡ bytes
+
+module _ (alone : Bool) (s : Reader) (header antenna store out : List ℕ) (whole : length header ≡ headerLength)
+    (lent : Lent antenna store out) where
+  told-none : {h : History} → Agrees alone s store h → Told alone h [] false (sending s Out 0 store out)
+  told-none a = record { none = refl; agrees = a; sends = λ _. sent-none store out }
+
+  told-nack : {h : History} (identifier n : ℕ) → Agrees alone s store h
+      → Told alone h (wire identifier sign (NACK n)) false (nacked s identifier n store out)
+  told-nack identifier n a = record { none = refl; agrees = a; sends = λ _. sent-out (wire identifier sign (NACK n)) store out }
+
+  module _ (content : List ℕ) (last : Option Executed) where
+    abbrev identifier : ℕ
+    identifier = getD content 0 0
+
+    abbrev code : ℕ
+    code = getD content 1 0
+
+    abbrev «data» : List ℕ
+    «data» = drop 2 content
+
+    abbrev known : (Parameter → List ℕ) → History
+    known value = record { value = value; last = last }
+
+    -- steps 4 to 6
+    told-executed : (command : Command) → Carries command «data» → Agrees alone s store (known (valueOf (s .parameters)))
+        → Told alone (judgedNext (known (valueOf (s .parameters))) content header antenna (Accepted command))
+        (wire identifier code (replyTo (valueOf (s .parameters)) command header antenna)) false
+        (executed s header antenna store out identifier code «data» command)
+    told-executed command carried a =
+        let value = valueOf (s .parameters) in
+        let reply = replyTo value command header antenna in
+        let e : Executed = record { identifier = identifier; code = code; reply = reply } in
+        record {
+          none = refl;
+          agrees = record {
+            values = done-values (s .parameters) «data» command carried;
+            sized = done-sized value (a .sized) «data» command carried;
+            speed = done-speed (s .parameters) «data» command carried (a .speed);
+            memory = refl;
+            fits = reply-fits value (a .sized) header antenna command whole (lent .0);
+            stored = stored-onto alone e store;
+          };
+          sends = λ _. sent-out (wire identifier code reply) (onto (wire identifier code reply) store) out;
+        }
+
+    told-judged : (k : Acceptance) → acceptance code «data» ≡ k → Agrees alone s store (known (valueOf (s .parameters)))
+        → Told alone (judgedNext (known (valueOf (s .parameters))) content header antenna k)
+        (wire identifier code (judgedReply (known (valueOf (s .parameters))) content header antenna k)) false
+        (judged s header antenna store out identifier code «data» k)
+    told-judged (Refused fault) asked a = told-nack identifier (nackOf fault) a
+    told-judged (Accepted command) asked a = told-executed command (carries (accepts code «data» asked)) a
+
+  told-recalled : (content : List ℕ) (value : Parameter → List ℕ) (last : Option Executed)
+      → repeats last (getD content 0 0) (getD content 1 0) ≡ true
+      → Agrees alone s store (record { value = value; last = last })
+      → Told alone (record { value = value; last = last })
+      (bytesOf (record { value = value; last = last }) content header antenna (Option·map (λ (e : Executed). e .reply) last)) true
+      (recalledAs s header antenna store out content last)
+  told-recalled content value none same a = absurd (true≢false (sym same))
+  told-recalled content value (some e) same a =
+      let (i, k) = and-both (eqb (e .identifier) (getD content 0 0)) (eqb (e .code) (getD content 1 0)) same in
+      let own = eqb-true (e .identifier) (getD content 0 0) i in
+      let asked = eqb-true (e .code) (getD content 1 0) k in
+      let within : length (wireOf e) ≤ length store = omega (arith, wire-room e (a .fits), lent .1) in
+      record {
+        none = refl;
+        agrees = a;
+        sends = λ single. sent-store (length (wireOf e)) store out within
+            ∙ in-store (single refl) (a .stored)
+            ∙ ap (λ (n : ℕ). wire n (e .code) (e .reply)) own
+            ∙ ap (λ (n : ℕ). wire (getD content 0 0) n (e .reply)) asked;
+      }
+    where
+      in-store : alone ≡ true → InStore alone store (some e) → take (length (wireOf e)) store ≡ wireOf e
+      in-store single kept = subst (λ (b : Bool). InStore b store (some e)) single kept
+
+  told-frame : (content : List ℕ) (h : History) → Agrees alone s store h
+      → Told alone (next h content header antenna Right) (toSend h content header antenna Right) (isRepeat h content Right)
+      (framed s header antenna store out content)
+  told-frame content h a =
+      let again = repeats (h .last) (getD content 0 0) (getD content 1 0) in
+      let k = acceptance (getD content 1 0) (drop 2 content) in
+      subst⁻¹ (Told alone (next h content header antenna Right) (toSend h content header antenna Right) again)
+      (framed-told s header antenna store out content (h .last) (a .memory))
+      (by-test
+      (λ (t : Bool). Told alone (cond t h (judgedNext h content header antenna k))
+      (bytesOf h content header antenna (cond t (Option·map (λ (e : Executed). e .reply) (h .last))
+      (some (judgedReply h content header antenna k)))) t
+      (cond t (recalledAs s header antenna store out content (h .last))
+      (judged s header antenna store out (getD content 0 0) (getD content 1 0) (drop 2 content) k)))
+      again
+      (λ same. told-recalled content (h .value) (h .last) same a)
+      (λ _. subst P (a .values) (told-judged content (h .last) k refl
+      (subst⁻¹ (λ (v : Parameter → List ℕ). Agrees alone s store (record { value = v; last = h .last })) (a .values) a))))
+    where
+      P : (Parameter → List ℕ) → Type 0
+      P v =
+          let h′ : History = record { value = v; last = h .last } in
+          let k = acceptance (getD content 1 0) (drop 2 content) in
+          Told alone (judgedNext h′ content header antenna k)
+          (wire (getD content 0 0) (getD content 1 0) (judgedReply h′ content header antenna k)) false
+          (judged s header antenna store out (getD content 0 0) (getD content 1 0) (drop 2 content) k)
+
+  -- each step
+  pub told-step : (asked : Asking) (content : List ℕ) (h : History) → Agrees alone s store h
+      → Told alone (next h content header antenna asked) (toSend h content header antenna asked) (isRepeat h content asked)
+      (stepped s header antenna store out asked content)
+  told-step Nothing content h a = told-none a
+  told-step Wrong content h a = told-nack (getD content 0 0) 1 a
+  told-step Right content h a = told-frame content h a

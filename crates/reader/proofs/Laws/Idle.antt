@@ -1,0 +1,124 @@
+-- Calls that execute nothing change nothing that a later repeat depends on.
+-- Assumes nothing.
+use mathlib.Core.Path.{_≡_, refl, sym, ap, subst, subst⁻¹, _∙_}
+use mathlib.Core.Bool.{Bool, true, false, cond, not, _&&_, true≢false}
+use mathlib.Core.List.{List}
+use mathlib.Core.Option.{Option, none, some}
+use lib.Dec.{eqb}
+use lib.ListN.{length, getD, drop}
+use borrow.Author.Tests.{eqb-true}
+use Prim.Native.Nat.{ℕ}
+use Rattle.link.specs.Refusals.{number}
+use Rattle.link.proofs.Laws.Choice.{cond-elim}
+use Rattle.link.specs.Events.{Name, named}
+use Rattle.reader.specs.declared.asking.Asking.{Asking}
+use Rattle.reader.specs.declared.asking.Asking.the-variants.{Nothing, Wrong, Right}
+use Rattle.reader.specs.declared.command.Acceptance.{Acceptance}
+use Rattle.reader.specs.declared.command.Acceptance.the-variants.{Accepted, Refused}
+use Rattle.reader.specs.declared.reader.Reader.{Reader}
+use Rattle.reader.specs.Limits.{headerLength}
+use Rattle.reader.specs.Asking.{asking}
+use Rattle.reader.specs.Acceptance.{acceptance, isAccepted}
+use Rattle.reader.specs.Answering.{Answered, judged, stepped, ByTable, state, noStore, noOut, tooLong, request, steps}
+use Rattle.reader.specs.Sessions.{Executed, History, repeats, judgedNext, next, executes, Kept, Session, made, powered, called, Idle, rests, heeds}
+use Rattle.reader.proofs.Laws.Choice.{by-test}
+use Rattle.reader.proofs.Laws.Answering.{by-table}
+use Rattle.reader.proofs.Laws.Agreeing.{memoryOf, Agrees, agrees-lent, recalledAs, judgedAs, framed-told, told-step}
+use Rattle.reader.proofs.Laws.Sessions.{session-agrees}
+
+judged-nothing : (h : History) (content header antenna : List ℕ) (k : Acceptance) → isAccepted k ≡ false
+    → judgedNext h content header antenna k ≡ h
+judged-nothing h content header antenna (Refused fault) idle = refl
+judged-nothing h content header antenna (Accepted command) idle = absurd (true≢false idle)
+
+-- tell nothing new
+pub executes-nothing : (h : History) (content header antenna : List ℕ) (asked : Asking) → executes h content asked ≡ false
+    → next h content header antenna asked ≡ h
+executes-nothing h content header antenna Nothing idle = refl
+executes-nothing h content header antenna Wrong idle = refl
+executes-nothing h content header antenna Right idle =
+    by-test (λ (t : Bool). (not t && isAccepted k) ≡ false → cond t h (judgedNext h content header antenna k) ≡ h)
+    (repeats (h .last) (getD content 0 0) (getD content 1 0)) (λ _ _. refl) (λ _ n. judged-nothing h content header antenna k n) idle
+  where
+    k : Acceptance
+    k = acceptance (getD content 1 0) (drop 2 content)
+
+-- change neither the record nor the store
+record Unchanged (s : Reader) (store : List ℕ) (a : Answered) : Type 0 where
+  reader : a .reader ≡ s
+  kept : a .store ≡ store
+
+module _ (s : Reader) (header antenna store out content : List ℕ) where
+  judged-keeps : (k : Acceptance) → isAccepted k ≡ false
+      → Unchanged s store (judged s header antenna store out (getD content 0 0) (getD content 1 0) (drop 2 content) k)
+  judged-keeps (Refused fault) idle = record { reader = refl; kept = refl }
+  judged-keeps (Accepted command) idle = absurd (true≢false idle)
+
+  recalled-keeps : (last : Option Executed) → Unchanged s store (recalledAs s header antenna store out content last)
+  recalled-keeps none = record { reader = refl; kept = refl }
+  recalled-keeps (some e) = record { reader = refl; kept = refl }
+
+  step-keeps : (asked : Asking) (h : History) → s .memory ≡ memoryOf (h .last) → executes h content asked ≡ false
+      → Unchanged s store (stepped s header antenna store out asked content)
+  step-keeps Nothing h remembered idle = record { reader = refl; kept = refl }
+  step-keeps Wrong h remembered idle = record { reader = refl; kept = refl }
+  step-keeps Right h remembered idle =
+      subst⁻¹ (Unchanged s store) (framed-told s header antenna store out content (h .last) remembered)
+      (by-test
+      (λ (t : Bool). (not t && isAccepted k) ≡ false
+      → Unchanged s store (cond t (recalledAs s header antenna store out content (h .last)) (judgedAs s header antenna store out content)))
+      (repeats (h .last) (getD content 0 0) (getD content 1 0)) (λ _ _. recalled-keeps (h .last)) (λ _ n. judged-keeps k n) idle)
+    where
+      k : Acceptance
+      k = acceptance (getD content 1 0) (drop 2 content)
+
+  row-keeps : {a : Answered} (alone : Bool) (event : Name) (h : History) → Agrees alone s store h → length header ≡ headerLength
+      → (a .refusal ≡ 0 → executes h content (asking event) ≡ false)
+      → ByTable s event content header antenna store out a
+      → Unchanged s store a
+  row-keeps alone event h a whole idle (state bad) = record { reader = refl; kept = refl }
+  row-keeps alone event h a whole idle (noStore good short) = record { reader = refl; kept = refl }
+  row-keeps alone event h a whole idle (noOut good kept short) = record { reader = refl; kept = refl }
+  row-keeps alone event h a whole idle (tooLong good kept long over) = record { reader = refl; kept = refl }
+  row-keeps alone event h a whole idle (request good lent bad) = record { reader = refl; kept = refl }
+  row-keeps alone event h a whole idle (steps good lent fine) =
+      step-keeps (asking event) h (a .memory) (idle (told-step alone s header antenna store out whole lent (asking event) content h a .none))
+
+-- so after any sequence of them the reader is the same, the store too if nobody else wrote to it, and the same is told
+pub record Same (alone : Bool) (h : History) (s : Reader) (held : List ℕ) (t : Reader) (kept : List ℕ) : Type 0 where
+  pub session : Session false t kept h
+  pub reader : t ≡ s
+  pub store : alone ≡ true → kept ≡ held
+
+told-same : (n : ℕ) {h k : History} → (n ≡ 0 → k ≡ h) → cond (eqb n 0) k h ≡ h
+told-same n {h} {k} same = cond-elim (λ (l : History). l ≡ h) (eqb n 0) (λ e. same (eqb-true n 0 e)) (λ _. refl)
+
+kept-same : (alone : Bool) {held store : List ℕ} → Kept alone held store → alone ≡ true → held ≡ store
+kept-same true kept single = kept
+kept-same false kept single = absurd (true≢false (sym single))
+
+pub idle-keeps : {alone : Bool} {s t : Reader} {held kept : List ℕ} {h : History} → Session false s held h → Idle alone h s held t kept
+    → Same alone h s held t kept
+idle-keeps se rests = record { session = se; reader = refl; store = λ _. refl }
+idle-keeps {alone} {h = h} se (heeds {t} i r event content header antenna store out store′ out′ lent whole idle says) =
+    let same = idle-keeps se i in
+    let row = by-table t (named event) content header antenna store out in
+    let agrees = agrees-lent false (session-agrees (same .session)) tt in
+    let none = ap (λ (a : Answered). a .refusal) says in
+    let u = subst⁻¹ (Unchanged t store) says
+    (row-keeps t header antenna store out content false (named event) h agrees whole (λ done. idle (none ∙ done)) row)
+    in
+    let told = told-same (number (r .refusal)) (λ done. executes-nothing h content header antenna (asking (named event)) (idle done)) in
+    record {
+      session = subst (Session false (r .reader) store′) told
+          (called (same .session) r event content header antenna store out store′ out′ tt whole says);
+      reader = u .reader ∙ same .reader;
+      store = λ single. u .kept ∙ sym (kept-same alone lent single) ∙ same .store single;
+    }
+
+-- a session in which nobody else wrote to the store is one in which somebody may have
+pub loose : {alone : Bool} {s : Reader} {held : List ℕ} {h : History} → Session alone s held h → Session false s held h
+loose (made r store is) = made r store is
+loose (powered se r says) = powered (loose se) r says
+loose (called se r event content header antenna store out store′ out′ kept whole says) =
+    called (loose se) r event content header antenna store out store′ out′ tt whole says

@@ -1,0 +1,98 @@
+-- What was executed is repeated: after any calls that execute nothing, a frame with its identifier and command changes nothing and sends the
+-- bytes that were sent when it was executed.
+-- Assumes nothing.
+use mathlib.Core.Path.{_≡_, refl, sym, ap, subst, _∙_}
+use mathlib.Core.Bool.{true, false, cond}
+use mathlib.Core.Option.{some}
+use mathlib.Core.List.{List, _∷_}
+use Prim.Native.Nat.{ℕ, _≤_}
+use lib.Dec.{eqb}
+use lib.ListN.{length, take, drop}
+use lib.Seq.{take-at}
+use Rattle.link.specs.declared.event.Event.the-variants.{Frame}
+use Rattle.link.specs.Limits.{mostData}
+use Rattle.link.specs.Events.{FRAME}
+use Rattle.reader.specs.declared.asking.Asking.the-variants.{Right}
+use Rattle.reader.specs.declared.buffer.Buffer.the-variants.{Store}
+use Rattle.reader.specs.declared.command.Command.{Command}
+use Rattle.reader.specs.declared.command.Acceptance.the-variants.{Accepted}
+use Rattle.reader.specs.declared.parameter.Parameter.{Parameter}
+use Rattle.reader.specs.declared.reader.Reader.{Reader}
+use Rattle.reader.specs.declared.reader.Answer.{Answer}
+use Rattle.reader.specs.Limits.{headerLength}
+use Rattle.reader.specs.Copying.{onto}
+use Rattle.reader.specs.Parameters.{valueOf}
+use Rattle.reader.specs.Acceptance.{acceptance}
+use Rattle.reader.specs.Replies.{wire, replyTo}
+use Rattle.reader.specs.Answering.{Answered, answering, Lent, sending, judged, executed, answered}
+use Rattle.reader.specs.Sending.{sent}
+use Rattle.reader.specs.Sessions.{Executed, wireOf, History, repeats, next, Session, called, Idle}
+use Rattle.reader.proofs.Laws.Acceptance.{accepts, accepted-short}
+use Rattle.reader.proofs.Laws.Sending.{sent-out}
+use Rattle.reader.proofs.Laws.Sessions.{session-agrees, session-judges, repeat-stored, repeat-sends}
+use Rattle.reader.proofs.Laws.Idle.{idle-keeps}
+
+-- what a repeat does: no record and no byte changes, and what it sends is what was sent
+pub record Repeated (executes again : Answer) (t : Reader) (store₁ out₁ kept out store₂ out₂ : List ℕ) : Type 0 where
+  pub reader : t ≡ executes .reader
+  pub unchanged : answering again store₂ out₂ ≡ sending t Store (executes .length) kept out
+  pub sends : sent Store (executes .length) kept out ≡ sent (executes .buffer) (executes .length) store₁ out₁
+
+module _ {s : Reader} {held store₁ out₁ : List ℕ} {h : History} {command : Command} (se : Session false s held h) (r : Answer)
+    (identifier code : ℕ)
+    («data» header antenna store out : List ℕ) (asked : acceptance code «data» ≡ Accepted command)
+    (new : repeats (h .last) identifier code ≡ false)
+    (whole : length header ≡ headerLength) (lent : Lent antenna store out)
+    (says : answering r store₁ out₁ ≡ answered s FRAME (identifier ∷ code ∷ «data») header antenna store out) where
+  abbrev content : List ℕ
+  content = identifier ∷ code ∷ «data»
+
+  abbrev e : Executed
+  e = record { identifier = identifier; code = code; reply = replyTo (h .value) command header antenna }
+
+  -- the call executed the command, and its reply stands in both buffers
+  done : answering r store₁ out₁ ≡ executed s header antenna store out identifier code «data» command
+  done =
+      says
+      ∙ session-judges se identifier code «data» header antenna store out new (accepted-short (accepts code «data» asked)) lent
+      ∙ ap (judged s header antenna store out identifier code «data») asked
+
+  abbrev bytes : List ℕ
+  bytes = wire identifier code (replyTo (valueOf (s .parameters)) command header antenna)
+
+  same-bytes : bytes ≡ wireOf e
+  same-bytes = ap (λ (v : Parameter → List ℕ). wire identifier code (replyTo v command header antenna)) (session-agrees se .values)
+
+  -- so it is the last command executed
+  on : Session false (r .reader) store₁ (next h content header antenna Right)
+  on =
+      subst (λ (n : ℕ). Session false (r .reader) store₁ (cond (eqb n 0) (next h content header antenna Right) h))
+      (ap (λ (a : Answered). a .refusal) done)
+      (called se r Frame content header antenna store out store₁ out₁ tt whole says)
+
+  last : next h content header antenna Right .last ≡ some e
+  last = rw (new, asked)
+
+  pub executed-repeats : {t : Reader} {kept store₂ out₂ : List ℕ} → Idle true (next h content header antenna Right) (r .reader) store₁ t kept
+      → (q : Answer) (again device card room : List ℕ)
+      → length again ≤ mostData
+      → Lent card kept room
+      → answering q store₂ out₂ ≡ answered t FRAME (identifier ∷ code ∷ again) device card kept room
+      → Repeated r q t store₁ out₁ kept room store₂ out₂
+  executed-repeats {t} {kept} {store₂} {out₂} idle q again device card room short good says′ =
+      let same = idle-keeps on idle in
+      let n : length (wireOf e) ≡ r .length = ap length (sym same-bytes) ∙ sym (ap (λ (a : Answered). a .length) done) in
+      let stored : take (length (wireOf e)) kept ≡ wireOf e =
+      ap (take (length (wireOf e))) (same .store refl ∙ ap (λ (a : Answered). a .store) done ∙ ap (λ (l : List ℕ). onto l store) same-bytes)
+      ∙ take-at (wireOf e) (drop (length (wireOf e)) store) (length (wireOf e)) refl
+      in
+      let first : sent (r .buffer) (r .length) store₁ out₁ ≡ bytes =
+      ap (λ (a : Answered). sent (a .buffer) (a .length) (a .store) (a .out)) done ∙ sent-out bytes (onto bytes store) out
+      in
+      record {
+        reader = same .reader;
+        unchanged = subst (λ (k : ℕ). answering q store₂ out₂ ≡ sending t Store k kept room) n
+            (repeat-stored (same .session) q e again device card kept room last short good says′);
+        sends = subst (λ (k : ℕ). sent Store k kept room ≡ sent (r .buffer) (r .length) store₁ out₁) n
+            (repeat-sends (same .session) e card kept room last good ∙ stored ∙ sym same-bytes ∙ sym first);
+      }

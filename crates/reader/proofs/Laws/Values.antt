@@ -1,0 +1,141 @@
+-- What was written to a parameter is what a later read answers, until another write.
+-- Assumes nothing.
+use mathlib.Core.Path.{_≡_, refl, sym, ap, subst, _∙_}
+use mathlib.Core.Bool.{Bool, true, false, cond, true≢false}
+use mathlib.Core.List.{List}
+use Prim.Native.Nat.{ℕ}
+use lib.Dec.{eqb}
+use lib.ListN.{length, getD, drop}
+use borrow.Author.Tests.{eqb-true, eq-eqb}
+use Rattle.link.specs.declared.event.Event.the-variants.{Frame}
+use Rattle.link.specs.Refusals.{number}
+use Rattle.link.specs.Events.{FRAME, named}
+use Rattle.link.proofs.Laws.Choice.{cond-elim}
+use Rattle.reader.specs.declared.asking.Asking.{Asking}
+use Rattle.reader.specs.declared.asking.Asking.the-variants.{Nothing, Wrong, Right}
+use Rattle.reader.specs.declared.parameter.Parameter.{Parameter}
+use Rattle.reader.specs.declared.command.Command.{Command}
+use Rattle.reader.specs.declared.command.Command.the-variants as Command
+use Rattle.reader.specs.declared.command.Command.the-variants.{Write, Read}
+use Rattle.reader.specs.declared.command.Acceptance.{Acceptance}
+use Rattle.reader.specs.declared.command.Acceptance.the-variants.{Accepted, Refused}
+use Rattle.reader.specs.declared.reader.Reader.{Reader}
+use Rattle.reader.specs.declared.reader.Answer.{Answer}
+use Rattle.reader.specs.Limits.{headerLength}
+use Rattle.reader.specs.Parameters.{parameterCode}
+use Rattle.reader.specs.Asking.{asking}
+use Rattle.reader.specs.Acceptance.{acceptance}
+use Rattle.reader.specs.Replies.{DATA, wire, replyTo}
+use Rattle.reader.specs.Answering.{answering, answered}
+use Rattle.reader.specs.Sending.{sent}
+use Rattle.reader.specs.Sessions.{History, repeats, valuesAfter, judgedNext, next, executes, Kept, Session, powered, called, Unwritten, still, power, other}
+use Rattle.reader.proofs.Laws.Choice.{by-test}
+use Rattle.reader.proofs.Laws.Parameters.{same-code}
+use Rattle.reader.proofs.Laws.Sessions.{session-sends}
+use Rattle.reader.proofs.Laws.Idle.{executes-nothing}
+
+-- a write that is executed: its value stands behind the parameter's code
+pub write-told : {p : Parameter} (h : History) (content header antenna : List ℕ)
+    → repeats (h .last) (getD content 0 0) (getD content 1 0) ≡ false
+    → acceptance (getD content 1 0) (drop 2 content) ≡ Accepted (Write p)
+    → next h content header antenna Right .value p ≡ drop 1 (drop 2 content)
+write-told {p} h content header antenna new asked = rw (new, asked, eq-eqb (parameterCode p) (parameterCode p) refl)
+
+-- every other call keeps it
+module _ (p : Parameter) (h : History) (content header antenna : List ℕ) where
+  values-kept : (command : Command) → (Accepted command ≡ Accepted (Write p) → ⊥)
+      → valuesAfter (h .value) command (drop 2 content) p ≡ h .value p
+  values-kept Command.Header not = refl
+  values-kept (Write q) not =
+      by-test (λ (t : Bool). eqb (parameterCode q) (parameterCode p) ≡ t → cond t (drop 1 (drop 2 content)) (h .value p) ≡ h .value p)
+      (eqb (parameterCode q) (parameterCode p))
+      (λ _ e. absurd (not (ap (λ (r : Parameter). Accepted (Write r)) (same-code q p e)))) (λ _ _. refl) refl
+  values-kept (Read q) not = refl
+  values-kept (Command.Card card) not = refl
+
+  judged-kept : (k : Acceptance) → (k ≡ Accepted (Write p) → ⊥) → judgedNext h content header antenna k .value p ≡ h .value p
+  judged-kept (Refused fault) not = refl
+  judged-kept (Accepted command) not = values-kept command not
+
+  pub value-kept : (asked : Asking) → (acceptance (getD content 1 0) (drop 2 content) ≡ Accepted (Write p) → ⊥)
+      → next h content header antenna asked .value p ≡ h .value p
+  value-kept Nothing not = refl
+  value-kept Wrong not = refl
+  value-kept Right not =
+      by-test (λ (t : Bool). cond t h (judgedNext h content header antenna (acceptance (getD content 1 0) (drop 2 content))) .value p
+      ≡ h .value p)
+      (repeats (h .last) (getD content 0 0) (getD content 1 0)) (λ _. refl)
+      (λ _. judged-kept (acceptance (getD content 1 0) (drop 2 content)) not)
+
+-- so does every call that executes no write of it
+call-kept : (p : Parameter) (h : History) (content header antenna : List ℕ) (asked : Asking)
+    → (executes h content asked ≡ true → acceptance (getD content 1 0) (drop 2 content) ≡ Accepted (Write p) → ⊥)
+    → next h content header antenna asked .value p ≡ h .value p
+call-kept p h content header antenna asked idle =
+    by-test (λ (t : Bool). executes h content asked ≡ t → next h content header antenna asked .value p ≡ h .value p)
+    (executes h content asked)
+    (λ _ e. value-kept p h content header antenna asked (idle e))
+    (λ _ e. ap (λ (k : History). k .value p) (executes-nothing h content header antenna asked e)) refl
+
+-- so does every sequence of such calls and of power-ons
+pub record KeptValue (alone : Bool) (p : Parameter) (h : History) (t : Reader) (kept : List ℕ) (k : History) : Type 0 where
+  pub session : Session alone t kept k
+  pub value : k .value p ≡ h .value p
+
+pub unwritten-value : {alone : Bool} {p : Parameter} {s t : Reader} {held kept : List ℕ} {h k : History} → Session alone s held h
+    → Unwritten alone p s held h t kept k
+    → KeptValue alone p h t kept k
+unwritten-value se still = record { session = se; value = refl }
+unwritten-value se (power u r says) =
+    let v = unwritten-value se u in
+    record { session = powered (v .session) r says; value = v .value }
+unwritten-value {p} {h = h} se (other {k = k} u r event content header antenna store out store′ out′ kept whole idle says) =
+    let v = unwritten-value se u in
+    let asked = asking (named event) in
+    record {
+      session = called (v .session) r event content header antenna store out store′ out′ kept whole says;
+      value = cond-elim (λ (l : History). l .value p ≡ h .value p) (eqb (number (r .refusal)) 0)
+          (λ e. call-kept p k content header antenna asked (idle (eqb-true (number (r .refusal)) 0 e)) ∙ v .value) (λ _. v .value);
+    }
+
+-- and a read that is executed answers it
+pub read-answers : {alone : Bool} {s : Reader} {held : List ℕ} {h : History} {p : Parameter} {store′ out′ : List ℕ} → Session alone s held h
+    → (r : Answer) (content header antenna store out : List ℕ)
+    → Kept alone held store
+    → length header ≡ headerLength
+    → answering r store′ out′ ≡ answered s FRAME content header antenna store out
+    → number (r .refusal) ≡ 0
+    → repeats (h .last) (getD content 0 0) (getD content 1 0) ≡ false
+    → acceptance (getD content 1 0) (drop 2 content) ≡ Accepted (Read p)
+    → sent (r .buffer) (r .length) store′ out′ ≡ wire (getD content 0 0) (getD content 1 0) (DATA (h .value p))
+unfolding replyTo
+read-answers se r content header antenna store out kept whole says done new asked =
+    session-sends se r Frame content header antenna store out kept whole says done (λ again. absurd (true≢false (sym again ∙ new)))
+    ∙ rw (new, asked)
+
+-- a value that was written is what a read sends, after any calls and power-ons that execute no other write of it
+pub written-read : {alone : Bool} {s t : Reader} {held store₁ out₁ kept store₂ out₂ : List ℕ} {h k : History} {p : Parameter}
+    → Session alone s held h
+    → (r : Answer) (content header antenna store out : List ℕ)
+    → Kept alone held store
+    → length header ≡ headerLength
+    → answering r store₁ out₁ ≡ answered s FRAME content header antenna store out
+    → number (r .refusal) ≡ 0
+    → repeats (h .last) (getD content 0 0) (getD content 1 0) ≡ false
+    → acceptance (getD content 1 0) (drop 2 content) ≡ Accepted (Write p)
+    → Unwritten alone p (r .reader) store₁ (next h content header antenna Right) t kept k
+    → (q : Answer) (asks device card store′ out′ : List ℕ)
+    → Kept alone kept store′
+    → length device ≡ headerLength
+    → answering q store₂ out₂ ≡ answered t FRAME asks device card store′ out′
+    → number (q .refusal) ≡ 0
+    → repeats (k .last) (getD asks 0 0) (getD asks 1 0) ≡ false
+    → acceptance (getD asks 1 0) (drop 2 asks) ≡ Accepted (Read p)
+    → sent (q .buffer) (q .length) store₂ out₂ ≡ wire (getD asks 0 0) (getD asks 1 0) (DATA (drop 1 (drop 2 content)))
+written-read {alone} {store₁ = store₁} {out₁ = out₁} {h = h} se r content header antenna store out lent whole says done new asked later
+    q asks device card store′ out′ kept whole′ says′ done′ new′ asked′ =
+    let on = called se r Frame content header antenna store out store₁ out₁ lent whole says in
+    let se₁ = subst (λ (n : ℕ). Session alone (r .reader) store₁ (cond (eqb n 0) (next h content header antenna Right) h)) done on in
+    let v = unwritten-value se₁ later in
+    read-answers (v .session) q asks device card store′ out′ kept whole′ says′ done′ new′ asked′
+    ∙ ap (λ (l : List ℕ). wire (getD asks 0 0) (getD asks 1 0) (DATA l)) (v .value ∙ write-told h content header antenna new asked)

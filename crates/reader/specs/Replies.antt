@@ -1,0 +1,66 @@
+-- What a reader replies, and the frame that says it.
+-- 01, The point reader, the table and the paragraph below it; 001, 'Кадры ответа ACK/NACK'. Assumes nothing.
+use Prim.Native.Nat.{ℕ, _≤_}
+use mathlib.Core.Path.{_≡_}
+use mathlib.Core.Bool.{cond}
+use mathlib.Core.List.{List, [], _∷_}
+use lib.ListN.{length}
+use Rattle.link.specs.Image.{image}
+use Rattle.link.specs.Frame.{pointContent}
+use Rattle.link.specs.Refusals.{counted}
+use Rattle.link.specs.Writing.{leaving, putting}
+use Rattle.reader.specs.declared.parameter.Parameter.{Parameter}
+use Rattle.reader.specs.declared.command.Command.{Command}
+use Rattle.reader.specs.declared.command.Command.the-variants.{Header, Write, Read, Card}
+use Rattle.reader.specs.Limits.{room}
+use Rattle.reader.specs.Cards.{isCode}
+
+-- ACK, NACK with its number, or data
+pub data Reply : Type 0 where
+  ACK : Reply
+  NACK : ℕ → Reply
+  DATA : List ℕ → Reply
+
+-- ACK and NACK frames carry 2A in place of the command
+abbrev pub sign : ℕ
+sign = 0x2A
+
+abbrev pub commandIn : ℕ → Reply → ℕ
+commandIn code ACK = sign
+commandIn code (NACK n) = sign
+commandIn code (DATA bytes) = code
+
+-- and one byte: 55 for ACK, else the NACK number
+abbrev pub dataIn : Reply → List ℕ
+dataIn ACK = 0x55 ∷ []
+dataIn (NACK n) = n ∷ []
+dataIn (DATA bytes) = bytes
+
+-- the content without check of the reply to a request with this identifier and code
+abbrev pub frontOf : ℕ → ℕ → Reply → List ℕ
+frontOf identifier code reply = identifier ∷ commandIn code reply ∷ dataIn reply
+
+-- with its check, and its frame's whole image
+abbrev pub replyContent : ℕ → ℕ → Reply → List ℕ
+replyContent identifier code reply = pointContent identifier (commandIn code reply) (dataIn reply)
+
+abbrev pub wire : ℕ → ℕ → Reply → List ℕ
+wire identifier code reply = image (replyContent identifier code reply)
+
+-- this content's image was put to the front of a buffer with that room
+abbrev pub Puts : ℕ → List ℕ → List ℕ → List ℕ → Type 0
+Puts count out′ content out = (leaving (counted count) out′ ≡ putting content out) × (count ≤ room)
+
+-- the third column of the table, where the parameters have these values: the header; ACK; the value; the antenna's bytes as they come,
+-- or NACK 6 for no card and for a number of bytes that is not the card's
+unfoldable pub replyTo : (Parameter → List ℕ) → Command → List ℕ → List ℕ → Reply
+replyTo value Header header antenna = DATA header
+replyTo value (Write p) header antenna = ACK
+replyTo value (Read p) header antenna = DATA (value p)
+replyTo value (Card card) header antenna = cond (isCode card (length antenna)) (DATA antenna) (NACK 6)
+
+-- ACK, NACK 6 or data: never NACK 2 or 3
+abbrev pub IsAnswer : Reply → Type 0
+IsAnswer ACK = Unit {0}
+IsAnswer (NACK n) = n ≡ 6
+IsAnswer (DATA bytes) = Unit {0}
