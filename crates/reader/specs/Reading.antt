@@ -113,6 +113,16 @@ readBy identifier code reply (Refused fault) = refusing BadRequest
 unfoldable pub replyRead : ℕ → ℕ → List ℕ → List ℕ → Outcome
 replyRead identifier code «data» reply = readBy identifier code reply (acceptance code «data»)
 
+-- the request is this command, and no row up to 7 refuses the reply
+abbrev pub Heeded : ℕ → ℕ → List ℕ → List ℕ → Command → Type 0
+Heeded identifier code «data» reply command =
+    (acceptance code «data» ≡ Accepted command) × (wrongId identifier reply ≡ false) × (wrongCommand code reply ≡ false)
+
+-- and it is 2A with one byte
+abbrev pub Signed : ℕ → ℕ → List ℕ → List ℕ → Command → Type 0
+Signed identifier code «data» reply command =
+    Heeded identifier code «data» reply command × ((isSign reply ≡ true) × (eqb (length (replyData reply)) 1 ≡ true))
+
 -- The master's rows of the refusal table, and the reply where no row applies. `Laws.Reading` proves that `replyRead` answers by them,
 -- and that they leave it no other answer.
 pub data ByTable (identifier code : ℕ) («data» reply : List ℕ) : Outcome → Type 0 where
@@ -126,58 +136,34 @@ pub data ByTable (identifier code : ℕ) («data» reply : List ℕ) : Outcome �
       → wrongId identifier reply ≡ false
       → wrongCommand code reply ≡ true
       → ByTable identifier code «data» reply (refusing WrongCommand)
-  -- for 2A not one byte
-  signLength : {command : Command} → acceptance code «data» ≡ Accepted command
-      → wrongId identifier reply ≡ false
-      → wrongCommand code reply ≡ false
+  -- for 2A not one byte; data length not as above
+  signLength : {command : Command} → Heeded identifier code «data» reply command
       → isSign reply ≡ true
       → eqb (length (replyData reply)) 1 ≡ false
       → ByTable identifier code «data» reply (refusing WrongLength)
-  -- data length not as above
-  dataLength : {command : Command} → acceptance code «data» ≡ Accepted command
-      → wrongId identifier reply ≡ false
-      → wrongCommand code reply ≡ false
+  dataLength : {command : Command} → Heeded identifier code «data» reply command
       → isSign reply ≡ false
       → isDue command (length (replyData reply)) ≡ false
       → ByTable identifier code «data» reply (refusing WrongLength)
-  -- 55 where data was due
-  ackDue : {command : Command} → acceptance code «data» ≡ Accepted command
-      → wrongId identifier reply ≡ false
-      → wrongCommand code reply ≡ false
-      → isSign reply ≡ true
-      → eqb (length (replyData reply)) 1 ≡ true
+  -- 55 where data was due; 2A byte not 55 or 1..6
+  ackDue : {command : Command} → Signed identifier code «data» reply command
       → eqb (reason reply) 0x55 ≡ true
       → isWrite command ≡ false
       → ByTable identifier code «data» reply (refusing WrongReason)
-  -- 2A byte not 55 or 1..6
-  noReason : {command : Command} → acceptance code «data» ≡ Accepted command
-      → wrongId identifier reply ≡ false
-      → wrongCommand code reply ≡ false
-      → isSign reply ≡ true
-      → eqb (length (replyData reply)) 1 ≡ true
+  noReason : {command : Command} → Signed identifier code «data» reply command
       → eqb (reason reply) 0x55 ≡ false
       → isNack (reason reply) ≡ false
       → ByTable identifier code «data» reply (refusing WrongReason)
   -- ACK, NACK with number 1..6, or data
-  ack : {command : Command} → acceptance code «data» ≡ Accepted command
-      → wrongId identifier reply ≡ false
-      → wrongCommand code reply ≡ false
-      → isSign reply ≡ true
-      → eqb (length (replyData reply)) 1 ≡ true
+  ack : {command : Command} → Signed identifier code «data» reply command
       → eqb (reason reply) 0x55 ≡ true
       → isWrite command ≡ true
       → ByTable identifier code «data» reply (accepting ACK)
-  nack : {command : Command} → acceptance code «data» ≡ Accepted command
-      → wrongId identifier reply ≡ false
-      → wrongCommand code reply ≡ false
-      → isSign reply ≡ true
-      → eqb (length (replyData reply)) 1 ≡ true
+  nack : {command : Command} → Signed identifier code «data» reply command
       → eqb (reason reply) 0x55 ≡ false
       → isNack (reason reply) ≡ true
       → ByTable identifier code «data» reply (accepting (NACK (reason reply)))
-  bytes : {command : Command} → acceptance code «data» ≡ Accepted command
-      → wrongId identifier reply ≡ false
-      → wrongCommand code reply ≡ false
+  bytes : {command : Command} → Heeded identifier code «data» reply command
       → isSign reply ≡ false
       → isDue command (length (replyData reply)) ≡ true
       → ByTable identifier code «data» reply (accepting (DATA (replyData reply)))

@@ -15,7 +15,7 @@ use Rattle.reader.specs.declared.command.Acceptance.{Acceptance}
 use Rattle.reader.specs.declared.command.Acceptance.the-variants.{Accepted, Refused}
 use Rattle.reader.specs.Acceptance.{acceptance, isAccepted}
 use Rattle.reader.specs.Replies.{sign}
-use Rattle.reader.specs.Reading.{replyData, Outcome, refusing, isDue, wrongId, isSign, wrongCommand, signRead, dataRead, readAs, readBy, replyRead, reason, isWrite, isNack, reasonRead, ByTable, request, identity, otherCommand, signLength, dataLength, ackDue, noReason, ack, nack, bytes}
+use Rattle.reader.specs.Reading.{replyData, Outcome, refusing, isDue, wrongId, isSign, wrongCommand, signRead, dataRead, readAs, readBy, replyRead, Heeded, Signed, reason, isWrite, isNack, reasonRead, ByTable, request, identity, otherCommand, signLength, dataLength, ackDue, noReason, ack, nack, bytes}
 
 module _ (identifier code : ℕ) (reply : List ℕ) (asks : Command) where
   -- row 6
@@ -108,13 +108,14 @@ module _ (identifier code : ℕ) («data» reply : List ℕ) where
       of (Accepted c) asked =
           cond-elim P (wrongId identifier reply) (identity asked)
           (λ own. cond-elim P (wrongCommand code reply) (otherCommand asked own)
-          (λ right. cond-elim P (isSign reply)
+          (λ right. let heeded : Heeded identifier code «data» reply c = (asked, own, right) in
+          cond-elim P (isSign reply)
           (λ mark. cond-elim P (eqb (length (replyData reply)) 1)
-          (λ one. cond-elim P (eqb (reason reply) 0x55)
-          (λ is. cond-elim P (isWrite c) (ack asked own right mark one is) (ackDue asked own right mark one is))
-          (λ not. cond-elim P (isNack (reason reply)) (nack asked own right mark one not) (noReason asked own right mark one not)))
-          (signLength asked own right mark))
-          (λ plain. cond-elim P (isDue c (length (replyData reply))) (bytes asked own right plain) (dataLength asked own right plain))))
+          (λ one. let signed : Signed identifier code «data» reply c = (heeded, (mark, one)) in
+          cond-elim P (eqb (reason reply) 0x55) (λ is. cond-elim P (isWrite c) (ack signed is) (ackDue signed is))
+          (λ not. cond-elim P (isNack (reason reply)) (nack signed not) (noReason signed not)))
+          (signLength heeded mark))
+          (λ plain. cond-elim P (isDue c (length (replyData reply))) (bytes heeded plain) (dataLength heeded plain))))
 
   pub table-only : {o : Outcome} → ByTable identifier code «data» reply o → o ≡ replyRead identifier code «data» reply
   unfolding replyRead readAs signRead reasonRead dataRead
@@ -125,10 +126,10 @@ module _ (identifier code : ℕ) («data» reply : List ℕ) where
       of (Accepted c) none = absurd (true≢false none)
   table-only (identity asked other) = rw (asked, other)
   table-only (otherCommand asked own wrong) = rw (asked, own, wrong)
-  table-only (signLength asked own right mark long) = rw (asked, own, right, mark, long)
-  table-only (dataLength asked own right plain long) = rw (asked, own, right, plain, long)
-  table-only (ackDue asked own right mark one is due) = rw (asked, own, right, mark, one, is, due)
-  table-only (noReason asked own right mark one not other) = rw (asked, own, right, mark, one, not, other)
-  table-only (ack asked own right mark one is write) = rw (asked, own, right, mark, one, is, write)
-  table-only (nack asked own right mark one not some) = rw (asked, own, right, mark, one, not, some)
-  table-only (bytes asked own right plain due) = rw (asked, own, right, plain, due)
+  table-only (signLength (asked, own, right) mark long) = rw (asked, own, right, mark, long)
+  table-only (dataLength (asked, own, right) plain long) = rw (asked, own, right, plain, long)
+  table-only (ackDue ((asked, own, right), (mark, one)) is due) = rw (asked, own, right, mark, one, is, due)
+  table-only (noReason ((asked, own, right), (mark, one)) not other) = rw (asked, own, right, mark, one, not, other)
+  table-only (ack ((asked, own, right), (mark, one)) is write) = rw (asked, own, right, mark, one, is, write)
+  table-only (nack ((asked, own, right), (mark, one)) not some) = rw (asked, own, right, mark, one, not, some)
+  table-only (bytes (asked, own, right) plain due) = rw (asked, own, right, plain, due)
