@@ -18,6 +18,7 @@ pub mod Address
 pub mod Turning
 pub mod Fit
 pub mod Receiving
+pub mod Bytes
 pub mod View
 pub mod Cuts
 pub mod Crew

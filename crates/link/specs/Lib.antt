@@ -2,10 +2,9 @@
 -- Read Stuffing, Image, Fcs, Sum, Address, Line and Frame beside document 01, 'Layout of a frame'; Refusals and Writing beside 'Refusal
 -- numbers'; Events, Turning, Rules and Receiving beside 'How the receiver moves'; Hearing and Listing as the rule that crew and desk signed;
 -- Examples beside 'Bench examples'.
--- Laying serves contracts of private functions, here and in the crates above. A byte is a number; no definition asks that it be below
+-- Laying says what stands in a buffer behind a call. A byte is a number; no definition asks that it be below
 -- 256, since the contracts hand over bytes.
 pub mod Limits
-pub mod Laying
 pub mod Stuffing
 pub mod Image
 pub mod Fcs
@@ -14,6 +13,7 @@ pub mod Address
 pub mod Frame
 pub mod Line
 pub mod Refusals
+pub mod Laying
 pub mod Writing
 pub mod Events
 pub mod Turning

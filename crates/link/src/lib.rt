@@ -3,7 +3,7 @@ pub mod event;
 pub mod fcs;
 mod frame;
 pub mod image;
-mod laying;
+pub mod laying;
 pub mod limits;
 pub mod line;
 pub mod phase;

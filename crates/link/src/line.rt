@@ -4,7 +4,7 @@ ghost use mathlib.Core.Path.{_≡_};
 ghost use Rattle.link.specs.Address.{isStation, takes as takesOf};
 ghost use Rattle.link.specs.Line.{checkOn, hasStation as hasStationOf};
 
-const MASTER: u8 = 0x00;
+pub const MASTER: u8 = 0x00;
 
 const BROADCAST: u8 = 0x7F;
 

@@ -79,7 +79,8 @@ module _ (line : Line) (good : hasStation line ≡ true) where
   stuffing-tells : (c k rest : List ℕ) (at : ℕ) → length k + length c ≤ mostContent → Taken line (k ++ c)
       → tell line (view Inside k) at (stuffing c ++ rest) ≡ tell line (view Inside (k ++ c)) (at + length (stuffing c)) rest
   unfolding stuffing
-  stuffing-tells [] k rest at fits taken = ap₂ (λ (l : List ℕ) (n : ℕ). tell line (view Inside l) n rest) (sym (append-nil k)) (sym (add-zero at))
+  stuffing-tells [] k rest at fits taken =
+      ap₂ (λ (l : List ℕ) (n : ℕ). tell line (view Inside l) n rest) (sym (append-nil k)) (sym (add-zero at))
   stuffing-tells (b ∷ bs) k rest at fits taken =
       let room : length (k ++ (b ∷ [])) + length bs ≤ mostContent = simp length-append (omega arith) in
       let wire : at + length (stuffed b) + length (stuffing bs) ≡ at + length (stuffed b ++ stuffing bs) = simp length-append (omega arith) in

@@ -63,7 +63,8 @@ module _ (line : Line) (stream : List ℕ) (before : ℕ) where
         rest .0,
         rest .1
             ∙ ap (λ (n : ℕ). tell line (seen (moved s t)) n l) (shift taken)
-            ∙ ap (λ (e : List Told). e ++ tell line (seen (moved s t)) (before + taken + 1) l) (sym (quiet line (seen s) (before + taken + 1) t none))
+            ∙ ap (λ (e : List Told). e ++ tell line (seen (moved s t)) (before + taken + 1) l)
+            (sym (quiet line (seen s) (before + taken + 1) t none))
             ∙ sym (tell-record fit (before + taken) b l),
       )
 
@@ -96,7 +97,8 @@ module _ {line : Line} (good : hasStation line ≡ true) (stream : List ℕ) whe
       let start : drop (before + 0) stream ≡ piece ++ rest = rw (add-zero before) continues in
       let says′ : saying r ≡ heard 0 s piece = says ∙ hears-piece s piece (fit .within) (ap hasStation (fit .on) ∙ good) in
       let h : Tells line stream before (saying r) 0 s (piece ++ rest) =
-      subst⁻¹ (λ (said : Said). Tells line stream before said 0 s (piece ++ rest)) says′ (heard-tells line stream before rest piece 0 s fit start) in
+      subst⁻¹ (λ (said : Said). Tells line stream before said 0 s (piece ++ rest)) says′
+      (heard-tells line stream before rest piece 0 s fit start) in
       (h .0, h .1 ∙ ap₂ (tell line (seen s)) (add-zero before) (sym continues))
 
   -- a hearing tells what the bytes tell one by one

@@ -88,7 +88,8 @@ taken-later (Addressed station) (a ∷ k) b taken l = taken
 
 wire-more : (k : List ℕ) (b : ℕ) → wire k ++ stuffed b ≡ wire (k ++ (b ∷ []))
 unfolding stuffing
-wire-more k b = ap (λ (l : List ℕ). start ∷ l) (sym (stuffing-append k (b ∷ []) ∙ ap (λ (l : List ℕ). stuffing k ++ l) (append-nil (stuffed b))))
+wire-more k b =
+    ap (λ (l : List ℕ). start ∷ l) (sym (stuffing-append k (b ∷ []) ∙ ap (λ (l : List ℕ). stuffing k ++ l) (append-nil (stuffed b))))
 
 module _ (line : Line) (good : hasStation line ≡ true) (heard : List ℕ) where
   -- a byte that stands for itself
@@ -178,7 +179,16 @@ module _ (line : Line) (good : hasStation line ≡ true) where
       ∙ ap (λ (l : List ℕ). e .before ++ (start ∷ l)) (sym (append-assoc (stuffing k) (stop ∷ []) rest)) in
       let end : length heard + 1 ≡ length (e .before) + length (image k) =
       omega (arith, ap length (e .split), length-append (e .before) (wire k), length-append (stuffing k) (stop ∷ [])) in
-      record { before = e .before; after = rest; split = rw is whole; ends = rw is end; least = rw is least; most = rw is (e .most); address = rw is (e .taken) }
+      record {
+        before = e .before;
+        after = rest;
+        split = rw is whole;
+        ends = rw is end;
+        least = rw is least;
+        most = rw is
+            (e .most);
+        address = rw is (e .taken);
+      }
 
   stop-stands : (heard k rest : List ℕ) (b : ℕ) → b ≡ stop → Ends line heard k (wire k) → FRAME ≡ named (verdict (checkOn line) k .event)
       → Stands line (heard ++ (b ∷ rest)) (length heard + 1) (take (verdict (checkOn line) k .length) k)

@@ -1,12 +1,12 @@
 -- There is a fresh receiver of the point line and for every station, and a hearing of every stream by it, so demand 3 is not empty.
 -- Assumes nothing.
-use mathlib.Core.Path.{_≡_, refl, sym, ap, _∙_}
+use mathlib.Core.Path.{_≡_, refl, sym, ap, subst, _∙_}
 use mathlib.Core.Bool.{true, false, cond, _||_}
-use mathlib.Core.List.{List, [], _++_, append-nil}
+use mathlib.Core.List.{List, [], _∷_, _++_, append-nil}
 use Prim.Native.Nat.{ℕ, zero, suc, _+_, _≤_, _<_}
 use native.Mathlib.Decide.{decLe}
 use native.Mathlib.Omega.{arith}
-use lib.ListN.{length, drop, length-drop}
+use lib.ListN.{length, take, drop, length-drop}
 use borrow.Author.Tests.{le-ltb}
 use Rattle.link.specs.declared.refusal.Refusal.the-variants as refusal
 use Rattle.link.specs.declared.event.Verdict.{Verdict}
@@ -18,12 +18,12 @@ use Rattle.link.specs.Limits.{mostContent}
 use Rattle.link.specs.Address.{isBroadcast, isNever, isStation}
 use Rattle.link.specs.Line.{hasStation}
 use Rattle.link.specs.Refusals.{number}
-use Rattle.link.specs.Events.{silent}
+use Rattle.link.specs.Events.{Name, happened, silent}
 use Rattle.link.specs.Receiving.{fresh, freshMade, Said, saying, turnAt, moved, outcomeAt, heard, badState, received}
-use Rattle.link.specs.Hearing.{Told, IsFresh, point, addressed, Hearing, over, call}
+use Rattle.link.specs.Hearing.{Told, toldAt, note, tells, IsFresh, point, addressed, Hearing, over, call}
 use Rattle.link.proofs.Laws.Address.{station-kinds}
 use Rattle.link.proofs.Laws.Fit.{Fit}
-use Rattle.link.proofs.Laws.Receiving.{heard-elim, heard-takes, hears-piece}
+use Rattle.link.proofs.Laws.Receiving.{heard-elim, heard-takes, hears-piece, received-takes}
 use Rattle.link.proofs.Laws.Cuts.{call-tells}
 use Rattle.link.proofs.Laws.Demand.{fresh-begins}
 
@@ -34,12 +34,18 @@ pub refuses-new : (a : ℕ) → a < 0x100 → freshMade a .refusal ≡ cond (isB
 unfolding freshMade
 refuses-new a byte = station-kinds a byte (number refusal.BadAddress)
 
+-- refused or not, what comes with it
+pub receiver-made : (station : ℕ) → freshMade station .receiver ≡ fresh (Addressed station)
+unfolding freshMade
+receiver-made station = refl
+
 pub fresh-point : IsFresh Point (fresh Point)
 fresh-point = point refl
 
 pub fresh-station : (station : ℕ) → isStation station ≡ true → IsFresh (Addressed station) (fresh (Addressed station))
 unfolding freshMade
-fresh-station station good = addressed (record { refusal = refusal.None; receiver = fresh (Addressed station) }) {station = station} (rw good) refl
+fresh-station station good =
+    addressed (record { refusal = refusal.None; receiver = fresh (Addressed station) }) {station = station} (rw good) refl
 
 -- no row of the refusal table names it
 pub fresh-good : {line : Line} {s : Receiver} → IsFresh line s → badState s ≡ false
@@ -92,3 +98,35 @@ pub hearing-some : {line : Line} {s : Receiver} → IsFresh line s → (stream :
 hearing-some {line} {s} fr stream =
     let b = fresh-begins fr in
     some line (b .good) stream (length stream) 0 s (b .fit) (omega arith)
+
+-- ---- a call on one byte
+
+pub note-some : (place : ℕ) (event : Name) (content : List ℕ) → happened event ≡ true
+    → note place event content ≡ toldAt place event content ∷ []
+unfolding note
+note-some place event content some = rw some
+
+pub note-none : (place : ℕ) (event : Name) (content : List ℕ) → happened event ≡ false → note place event content ≡ []
+unfolding note
+note-none place event content none = rw none
+
+received-answers : (s : Receiver) (piece : List ℕ) → badState s ≡ false → (r : Heard) × (saying r ≡ received s piece)
+unfolding received
+received-answers s piece good = rw good (heard-answers piece 0 s)
+
+-- a hearing may go on byte by byte
+pub hearing-byte : (stream : List ℕ) (b : ℕ) (bs : List ℕ) (before : ℕ) (s : Receiver) (more : List Told)
+    → badState s ≡ false → drop before stream ≡ b ∷ bs
+    → let said = received s (b ∷ []) in
+    Hearing stream (said .receiver) (before + 1) more
+    → Hearing stream s before (note (before + 1) (said .event) (take (said .length) (said .content)) ++ more)
+unfolding tells
+hearing-byte stream b bs before s more good left =
+    let said = received s (b ∷ []) in
+    let a = received-answers s (b ∷ []) good in
+    let t = received-takes s (b ∷ []) good in
+    let one : said .taken ≡ 1 = omega (arith, t .most, t .some (omega arith)) in
+    subst (λ (k : ℕ). Hearing stream (said .receiver) (before + k) more
+    → Hearing stream s before (note (before + k) (said .event) (take (said .length) (said .content)) ++ more)) one
+    (subst (λ (x : Said). Hearing stream (x .receiver) (before + x .taken) more → Hearing stream s before (tells before x ++ more)) (a .1)
+    (call (b ∷ []) bs (a .0) left (a .1)))

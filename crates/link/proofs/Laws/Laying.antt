@@ -1,6 +1,6 @@
 -- Laws of laying bytes into a buffer.
 -- Assumes nothing.
-use mathlib.Core.Path.{_≡_, ap₂, _∙_}
+use mathlib.Core.Path.{_≡_, ap, ap₂, _∙_}
 use mathlib.Core.List.{List, [], _∷_, _++_, append-assoc, append-nil}
 use Prim.Native.Nat.{ℕ, _+_, _-_, _≤_, _<_, zero-le}
 use native.Mathlib.Nat.{add-zero, zero-add, add-assoc}
@@ -8,8 +8,12 @@ use native.Mathlib.Numerals.{add-one}
 use native.Mathlib.Omega.{arith}
 use lib.ListN.{length, take, drop, set, length-append, length-take, length-drop, take-append-drop, drop-of-length-le}
 use lib.Seq.{take-at, drop-drop, length-take-le, set-split, take-all, drop-append-add}
+use borrow.Author.Tests.{lt-ltb, le-ltb, ltb-false}
+use lib.Dec.{ltb}
 use borrow.Rule.Slice.PartMut.{putMid, midOf}
-use Rattle.link.specs.Laying.{laid}
+use Rattle.link.specs.declared.laying.Placed.{Placed}
+use Rattle.link.specs.Laying.{laid, Ended, ended, unplaced, placed, put}
+use Rattle.link.proofs.Laws.Choice.{cond-elim}
 
 -- nothing laid is nothing changed
 pub laid-nil : (l : List ℕ) (at : ℕ) → laid l at [] ≡ l
@@ -73,3 +77,40 @@ laid-part l at x h =
     let e : length (drop at l) ≤ length l - at = simp length-drop (omega arith) in
     rw (take-all (length l - at) (drop at l) e, drop-of-length-le (drop at l) e, zero-add, drop-drop)
     (simp (append-assoc, append-nil))
+
+-- ---- bytes put where there is room, and where there is none
+
+pub put-refused : (bytes out : List ℕ) (at : ℕ) → length out - at < length bytes → put bytes out at ≡ unplaced out at
+unfolding put
+put-refused bytes out at h = simp (lt-ltb (length out - at) (length bytes) h)
+
+pub put-placed : (bytes out : List ℕ) (at : ℕ) → length bytes ≤ length out - at → put bytes out at ≡ placed bytes out at
+unfolding put
+put-placed bytes out at h = simp (le-ltb (length out - at) (length bytes) h)
+
+-- what was put ends within the buffer, if it began there
+pub put-within : (bytes out : List ℕ) (at : ℕ) → at ≤ length out → put bytes out at .end ≤ length out
+unfolding put
+put-within bytes out at begins =
+    cond-elim (λ (e : Ended). e .end ≤ length out) (ltb (length out - at) (length bytes)) (λ short. begins)
+    (λ roomy. omega (arith, ltb-false (length out - at) (length bytes) roomy))
+
+-- Calls that put one part of a text behind the other, from a place of a buffer on, and what the last of them answers and leaves.
+pub data Puts : List ℕ → ℕ → List ℕ → Ended → Type 0 where
+  last : {out : List ℕ} {at : ℕ} {x : List ℕ} {e : Ended} → e ≡ put x out at → Puts out at x e
+  then : {out : List ℕ} {at : ℕ} {y : List ℕ} {e : Ended} (x : List ℕ) (r : Placed) (o : List ℕ)
+      → ended r o ≡ put x out at → Puts o (r .end) y e → Puts out at (x ++ y) e
+
+-- where there is room for the whole text, they put the whole text
+pub puts-placed : {out : List ℕ} {at : ℕ} {text : List ℕ} {e : Ended} → Puts out at text e → at ≤ length out → length text ≤ length out - at
+    → e ≡ placed text out at
+puts-placed {out} {at} {text} (last says) begins fits = says ∙ put-placed text out at fits
+puts-placed {out} {at} (then {y} x r o says more) begins fits =
+    let n : length (x ++ y) ≡ length x + length y = length-append x y in
+    let first = says ∙ put-placed x out at (omega arith) in
+    let end : r .end ≡ at + length x = ap (λ (d : Ended). d .end) first in
+    let lies : o ≡ laid out at x = ap (λ (d : Ended). d .out) first in
+    let same : length o ≡ length out = ap length lies ∙ length-laid out at x (omega arith) in
+    puts-placed more (omega arith) (omega arith)
+    ∙ ap₂ (placed y) lies end
+    ∙ ap₂ (λ (k : ℕ) (l : List ℕ). record { refusal = 0; end = k; out = l }) (omega arith) (laid-more out at x y begins)

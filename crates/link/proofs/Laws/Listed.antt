@@ -81,7 +81,8 @@ point-listed r identifier command «data» out out′ before rest says none fr h
     (wrote-stands Point front «data» before rest (wrote false «data» (pointContent identifier command «data») out r says none)
     (length-point identifier command «data») tt)
 
-pub addressed-listed : (r : Counted) (station address identifier command : ℕ) («data» out out′ before rest : List ℕ) {s : Receiver} {all : List Told}
+pub addressed-listed : (r : Counted) (station address identifier command : ℕ)
+    («data» out out′ before rest : List ℕ) {s : Receiver} {all : List Told}
     → after r out′ ≡ addressedWritten address identifier command «data» out
     → answered r .refusal ≡ 0
     → takes station address ≡ true

@@ -103,6 +103,9 @@ rule-happens check k (noPair p f) y = refl
 rule-happens check k (longPlain l o full) y = refl
 rule-happens check k (longPair p full) y = refl
 
+pub event-happens : (s : Receiver) (b : ℕ) → hasEvent (turnAt s b) ≡ true → happened (named (outcomeAt s (turnAt s b) .event)) ≡ true
+event-happens s b y = rule-happens (checkOn (s .line)) (soFar s) (turn-rule (s .line) (s .phase) (s .count) b) y
+
 -- no byte back, none behind the piece, at least one of a piece that has one, and all where nothing is told
 pub record Takes (taken : ℕ) (piece : List ℕ) (said : Said) : Type 0 where
   pub least : taken ≤ said .taken
@@ -118,7 +121,7 @@ heard-takes =
       least = omega arith;
       most = omega arith;
       some = λ h. omega arith;
-      all = λ q. absurd (true≢false (sym (rule-happens (checkOn (s .line)) (soFar s) (turn-rule (s .line) (s .phase) (s .count) b) y) ∙ q));
+      all = λ q. absurd (true≢false (sym (event-happens s b y) ∙ q));
     })
     (λ taken s b bs said n r. record {
       least = omega (arith, r .least);
@@ -173,7 +176,8 @@ pub length-within : (s : Receiver) (piece : List ℕ) → received s piece .leng
 unfolding received
 length-within s piece =
     cond-elim (λ (said : Said). said .length ≤ mostContent) (badState s) (λ t. zero-le)
-    (λ f. heard-stays piece 0 s (ltb-false mostContent (s .count) (or-none (ltb mostContent (s .count)) (not (hasStation (s .line))) f .0)) .carries)
+    (λ f. heard-stays piece 0 s
+    (ltb-false mostContent (s .count) (or-none (ltb mostContent (s .count)) (not (hasStation (s .line))) f .0)) .carries)
 
 -- ---- how the loop goes
 

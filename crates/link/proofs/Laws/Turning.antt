@@ -39,7 +39,8 @@ module _ (line : Line) (count b : ℕ) where
       → ByRule line count b phase (kept count x)
   unfolding kept
   kept-rule {phase} x f g =
-      cond-elim (ByRule line count b phase) (ltb count mostContent) (λ t. f (ltb-true count mostContent t)) (λ t. g (ltb-false count mostContent t))
+      cond-elim (ByRule line count b phase) (ltb count mostContent) (λ t. f (ltb-true count mostContent t))
+      (λ t. g (ltb-false count mostContent t))
 
   plain-rule : Later line count → eqb b start ≡ false → eqb b stop ≡ false → ByRule line count b Inside (plainTurn count b)
   unfolding plainTurn

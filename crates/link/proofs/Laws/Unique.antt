@@ -4,9 +4,11 @@ use mathlib.Core.Path.{_≡_, sym, ap, _∙_}
 use mathlib.Core.List.{List}
 use Prim.Native.Nat.{ℕ}
 use Rattle.link.specs.declared.refusal.Counted.{Counted}
+use Rattle.link.specs.declared.laying.Placed.{Placed}
 use Rattle.link.specs.declared.receiver.Fresh.{Fresh}
 use Rattle.link.specs.declared.receiver.Heard.{Heard}
 use Rattle.link.specs.Refusals.{Answer, answered}
+use Rattle.link.specs.Laying.{Ended, ended}
 use Rattle.link.specs.Writing.{After, after}
 use Rattle.link.specs.Receiving.{Made, made, Said, saying}
 use Rattle.link.proofs.Laws.Events.{named-injective}
@@ -28,6 +30,13 @@ pub same-after : {r s : Counted} {o p : List ℕ} {t : After} → after r o ≡ 
 same-after {r} {s} {o} {p} e f =
     let both : after r o ≡ after s p = same e f in
     (same-answer (ap (λ (a : After). a .answer) e) (ap (λ (a : After). a .answer) f), ap (λ (a : After). a .out) both)
+
+-- of a call that puts bytes at a place of one
+pub same-ended : {r s : Placed} {o p : List ℕ} {t : Ended} → ended r o ≡ t → ended s p ≡ t → (r ≡ s) × (o ≡ p)
+same-ended {r} {s} {o} {p} d f =
+    let e : ended r o ≡ ended s p = same d f in
+    let why = number-injective (r .refusal) (s .refusal) (ap (λ (a : Ended). a .refusal) e) in
+    (λ i. record { refusal = why i; end = e i .end }, λ i. e i .out)
 
 -- of a call that makes a receiver or refuses
 pub same-made : {r s : Fresh} {t : Made} → made r ≡ t → made s ≡ t → r ≡ s
