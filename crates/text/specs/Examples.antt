@@ -1,0 +1,36 @@
+-- Numbers and bytes with the text that stands for them, as rows of one table. The claim is that each holds; `proofs/Laws/Examples` proves
+-- it. 01, The listing program, and the largest numbers of 32 and 64 bits. Assumes nothing.
+use Prim.Native.Nat.{ℕ}
+use Prim.Native.String.{String}
+use mathlib.Core.Path.{_≡_}
+use mathlib.Core.List.{List, [], _∷_}
+use Rattle.text.specs.Ascii.{ascii}
+use Rattle.text.specs.Decimal.{decimal}
+use Rattle.text.specs.Hex.{pairs}
+
+pub data Example : Type 0 where
+  number : (n : ℕ) (printed : String) → Example
+  bytes : (l : List ℕ) (printed : String) → Example
+
+abbrev pub Holds : Example → Type 0
+Holds (number n printed) = decimal n ≡ ascii printed
+Holds (bytes l printed) = pairs l ≡ ascii printed
+
+abbrev pub EachHolds : List Example → Type 0
+EachHolds [] = Unit {0}
+EachHolds (e ∷ es) = Holds e × EachHolds es
+
+abbrev pub examples : List Example
+examples =
+    number 0 "0"
+    ∷ number 5 "5"
+    ∷ number 12 "12"
+    ∷ number 100 "100"
+    ∷ number 0xFFFFFFFF "4294967295"
+    ∷ number 0xFFFFFFFFFFFFFFFF "18446744073709551615"
+    ∷ bytes [] "-"
+    ∷ bytes (0x00 ∷ []) "00"
+    ∷ bytes (0x9A ∷ []) "9A"
+    ∷ bytes (0x00 ∷ 0x01 ∷ 0x2A ∷ 0x55 ∷ []) "00.01.2A.55"
+    ∷ bytes (0xAF ∷ 0xFF ∷ []) "AF.FF"
+    ∷ []

@@ -1,0 +1,6 @@
+-- What a reader of this library must believe: the text of a number and of bytes, as lists of ASCII codes. Where it goes is the link's
+-- `Laying`. Read beside document 01, 'The listing program', and docs/BENCH.md, 'Script'.
+pub mod Ascii
+pub mod Decimal
+pub mod Hex
+pub mod Examples
