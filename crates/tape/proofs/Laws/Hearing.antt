@@ -1,0 +1,144 @@
+-- How the loop over gathered bodies goes: what is left of them gives what all of them give.
+-- Assumes nothing.
+use mathlib.Core.Path.{_≡_, sym, ap, ap₂, _∙_}
+use mathlib.Core.Bool.{false}
+use mathlib.Core.List.{List, [], _++_}
+use Prim.Native.Nat.{ℕ, _+_, _-_, _≤_, _<_}
+use native.Mathlib.Nat.{add-zero, zero-add, min-le-left}
+use native.Mathlib.Omega.{arith}
+use lib.ListN.{length, take, drop, length-append, length-take, length-drop, drop-of-length-le}
+use lib.Seq.{drop-drop}
+use Rattle.link.specs.declared.laying.Placed.{Placed}
+use Rattle.link.specs.declared.receiver.Receiver.{Receiver}
+use Rattle.link.specs.Limits.{mostContent}
+use Rattle.link.specs.Laying.{laid, Ended, ended, placed}
+use Rattle.link.specs.Receiving.{Said, badState, received}
+use Rattle.link.proofs.Laws.Laying.{laid-nil, laid-more, length-laid}
+use Rattle.link.proofs.Laws.Receiving.{received-takes, stays-good, length-within}
+use Rattle.tape.specs.declared.side.Side.{Side}
+use Rattle.tape.specs.Limits.{mostRecords, leastRoom}
+use Rattle.tape.specs.Lines.{brought}
+use Rattle.tape.specs.Running.{Run, running, Left, leaving}
+use Rattle.tape.proofs.Laws.Lines.{event-within}
+use Rattle.tape.proofs.Laws.Running.{callText, Hears, running-full, running-piece}
+
+-- the line of a call has room where the longest has
+pub brought-within : (n : ℕ) (side : Side) (s : Receiver) (piece : List ℕ) → n ≤ mostRecords
+    → length (brought n side (received s piece)) ≤ leastRoom
+brought-within n side s piece few =
+    let said = received s piece in
+    let h : length (take (said .length) (said .content)) ≤ mostContent =
+    omega (arith, length-take (said .length) (said .content), min-le-left (said .length) (length (said .content)), length-within s piece) in
+    event-within n side (said .event) (take (said .length) (said .content)) few h
+
+-- behind some bodies whose lines end here
+abbrev pub leavingBehind : ℕ → Run → List ℕ → ℕ → Left
+leavingBehind count w out end =
+    record { receiver = w .receiver; count = count + w .count; end = end + length (w .text); out = laid out end (w .text) }
+
+pub none-before : (w : Run) (out : List ℕ) (end : ℕ) → leavingBehind 0 w out end ≡ leaving w out end
+none-before w out end =
+    ap (λ (k : ℕ). record { receiver = w .receiver; count = k; end = end + length (w .text); out = laid out end (w .text) })
+    (zero-add (w .count))
+
+module _ (side : Side) (records : ℕ) (bodies : List ℕ) (all : Left) where
+  -- so many bodies were heard, and their lines end here
+  pub record Goes (out : List ℕ) (s : Receiver) (count end : ℕ) : Type 0 where
+    pub part : count ≤ length bodies
+    pub good : badState s ≡ false
+    pub ends : end ≤ length out
+    pub same : leavingBehind count (running (length out - end) side (records + count) s (drop count bodies)) out end ≡ all
+
+  module _ {out : List ℕ} {s : Receiver} {count end : ℕ} (goes : Goes out s count end) where
+    here : Left
+    here = record { receiver = s; count = count; end = end; out = out }
+
+    -- none is left to hear
+    stands : running (length out - end) side (records + count) s (drop count bodies) ≡ record { receiver = s; count = 0; text = [] }
+        → here ≡ all
+    unfolding here
+    stands none =
+        ap₂ (λ (k : ℕ) (l : List ℕ). record { receiver = s; count = count; end = k; out = l }) (sym (add-zero end)) (sym (laid-nil out end))
+        ∙ ap (λ (k : ℕ). record { receiver = s; count = k; end = end + 0; out = laid out end [] }) (sym (add-zero count))
+        ∙ ap (λ (w : Run). leavingBehind count w out end) (sym none)
+        ∙ goes .same
+
+    pub out-of-room : length out - end < leastRoom → record { receiver = s; count = count; end = end; out = out } ≡ all
+    unfolding here
+    out-of-room full = stands (running-full side (length out - end) (records + count) s (drop count bodies) full)
+
+    pub out-of-bodies : length bodies ≤ count → record { receiver = s; count = count; end = end; out = out } ≡ all
+    unfolding here running
+    out-of-bodies over = stands (rw (drop-of-length-le bodies over))
+
+    -- a call on all that is left takes some of it
+    pub takes-some : count < length bodies → 0 < received s (drop count bodies) .taken
+    takes-some more = received-takes s (drop count bodies) (goes .good) .some (rw (length-drop count bodies) (omega arith))
+
+    pub takes-most : count + received s (drop count bodies) .taken ≤ length bodies
+    takes-most = omega (arith, received-takes s (drop count bodies) (goes .good) .most, length-drop count bodies, goes .part)
+
+    -- and the line that it brought
+    module _ (few : records + length bodies ≤ mostRecords) (fits : leastRoom ≤ length out - end) (r : Placed) (o : List ℕ) where
+      abbrev left : List ℕ
+      left = drop count bodies
+
+      abbrev said : Said
+      said = received s left
+
+      abbrev text : List ℕ
+      text = callText side (records + count) said
+
+      text-fits : length text ≤ length out - end
+      text-fits =
+          let n : records + count + (said .taken - 1) ≤ mostRecords = omega (arith, takes-most) in
+          omega (arith, brought-within (records + count + (said .taken - 1)) side s left n)
+
+      -- what is left behind it, in the buffer that it left
+      rest-same : let w =
+          running (length out - end - length text) side (records + count + said .taken) (said .receiver) (drop (said .taken) left) in
+          leavingBehind (count + said .taken) w (laid out end text) (end + length text)
+          ≡ leavingBehind count (running (length out - end) side (records + count) s left) out end
+      unfolding Hears
+      rest-same =
+          let w = running (length out - end - length text) side (records + count + said .taken) (said .receiver) (drop (said .taken) left) in
+          let far : end + length text + length (w .text) ≡ end + length (text ++ w .text) = omega (arith, length-append text (w .text)) in
+          ap₂ (λ (k : ℕ) (l : List ℕ). record { receiver = w .receiver; count = count + said .taken + w .count; end = k; out = l })
+          far (laid-more out end text (w .text) (goes .ends))
+          ∙ ap (λ (k : ℕ). record {
+            receiver = w .receiver;
+            count = k;
+            end = end + length (text ++ w .text);
+            out = laid out end
+                (text ++ w .text);
+          })
+          (omega arith)
+          ∙ ap (λ (v : Run). leavingBehind count v out end)
+          (sym (running-piece side left (length out - end) (records + count) s (goes .good) fits))
+
+      pub next-call : ended r o ≡ placed text out end → Goes o (said .receiver) (count + said .taken) (r .end)
+      next-call puts =
+          let ends : r .end ≡ end + length text = ap (λ (d : Ended). d .end) puts in
+          let lies : o ≡ laid out end text = ap (λ (d : Ended). d .out) puts in
+          let fit : end + length text ≤ length out = omega (arith, text-fits, goes .ends) in
+          let size : length o ≡ length out = ap length lies ∙ length-laid out end text fit in
+          let room : length o - r .end ≡ length out - end - length text = omega arith in
+          let far : records + (count + said .taken) ≡ records + count + said .taken = omega arith in
+          record {
+            part = takes-most;
+            good = stays-good s left (goes .good);
+            ends = omega arith;
+            same =
+                ap₂
+                (λ (k n : ℕ). leavingBehind (count + said .taken) (running k side n (said .receiver) (drop (count + said .taken) bodies)) o
+                (r .end))
+                room far
+                ∙ ap (λ (l : List ℕ). leavingBehind (count + said .taken)
+                (running (length out - end - length text) side (records + count + said .taken) (said .receiver) l) o (r .end))
+                (sym (drop-drop (said .taken) count bodies))
+                ∙ ap₂ (leavingBehind (count + said .taken)
+                (running (length out - end - length text) side (records + count + said .taken) (said .receiver)
+                (drop (said .taken) left))) lies ends
+                ∙ rest-same
+                ∙ goes .same;
+          }

@@ -1,0 +1,109 @@
+-- What a call on a chunk answers: when it refuses, that what it takes and writes has room, and that it takes something.
+-- Assumes nothing.
+use mathlib.Core.Path.{_≡_, refl, ap}
+use mathlib.Core.Bool.{true, false, _||_}
+use mathlib.Core.List.{List, [], _∷_}
+use Prim.Native.Nat.{ℕ, _-_, _≤_, _<_, zero-le}
+use native.Mathlib.Omega.{arith}
+use borrow.Author.Tests.{lt-ltb, le-ltb, ltb-false, eqb-false}
+use lib.Dec.{ltb, eqb}
+use lib.ListN.{length, length-append}
+use Rattle.link.specs.declared.refusal.Refusal.the-variants.{NoRoom, BadState}
+use Rattle.link.proofs.Laws.Choice.{cond-elim, or-none}
+use Rattle.tape.specs.declared.next.Next.{Next}
+use Rattle.tape.specs.declared.next.Next.the-variants.{Kind, Body, Bad, Full}
+use Rattle.tape.specs.declared.tape.Tape.{Tape}
+use Rattle.tape.specs.Limits.{mostRecords, leastRoom}
+use Rattle.tape.specs.Whole.{on}
+use Rattle.tape.specs.Taping.{freshTape, stepAt, stepped, isOver, Went, going, Told, refusing, writing, badReceivers, badTape, listed}
+use Rattle.tape.proofs.Laws.Hearing.{brought-within}
+use Rattle.tape.proofs.Laws.Going.{going-step}
+use Rattle.tape.proofs.Laws.Chunks.{step-fine}
+
+-- ---- rows 4 and 1 of the refusal table, in this order, and the text where neither applies
+
+module _ (t : Tape) (chunk out : List ℕ) where
+  pub refuses-state : badTape t ≡ true → listed t chunk out ≡ refusing BadState t out
+  unfolding listed
+  refuses-state bad = rw bad
+
+  pub refuses-room : badTape t ≡ false → length out < leastRoom → listed t chunk out ≡ refusing NoRoom t out
+  unfolding listed
+  refuses-room fine short = rw (fine, lt-ltb (length out) leastRoom short)
+
+  pub lists-chunk : badTape t ≡ false → leastRoom ≤ length out → listed t chunk out ≡ writing (going (length out) t chunk) out
+  unfolding listed
+  lists-chunk fine roomy = rw (fine, le-ltb (length out) leastRoom roomy)
+
+-- ---- what it takes and writes has room
+
+-- a byte counts one record at most, and none behind the last permitted
+step-few : (next : Next) (t : Tape) (b : ℕ) → t .next ≡ next → badTape t ≡ false → t .records ≤ mostRecords
+    → (stepAt next t b .tape .records ≤ mostRecords) × (length (stepAt next t b .text) ≤ leastRoom)
+unfolding stepAt
+step-few Kind t b e fine few = (few, zero-le)
+step-few (Body side) t b e fine few =
+    let last = or-none (badReceivers (t .receivers)) (eqb (t .records) mostRecords) (rw e at fine) .1 in
+    (omega (arith, eqb-false (t .records) mostRecords last), brought-within (t .records) side (on side (t .receivers)) (b ∷ []) few)
+step-few Bad t b e fine few = (few, zero-le)
+step-few Full t b e fine few = (few, zero-le)
+
+going-within : (chunk : List ℕ) (room : ℕ) (t : Tape) → badTape t ≡ false → t .records ≤ mostRecords
+    → let g = going room t chunk in (g .taken ≤ length chunk) × (length (g .text) ≤ room) × (g .tape .records ≤ mostRecords)
+unfolding going
+going-within [] room t fine few = (zero-le, zero-le, few)
+going-within (b ∷ bs) room t fine few =
+    let s = stepped t b in
+    let f = step-few (t .next) t b refl fine few in
+    let m = going (room - length (s .text)) (s .tape) bs in
+    let r = going-within bs (room - length (s .text)) (s .tape) (step-fine t b fine) (f .0) in
+    cond-elim (λ (g : Went). (g .taken ≤ length (b ∷ bs)) × (length (g .text) ≤ room) × (g .tape .records ≤ mostRecords))
+    (isOver (t .next) || ltb room leastRoom) (λ stops. (zero-le, zero-le, few))
+    (λ goes. let roomy = ltb-false room leastRoom (or-none (isOver (t .next)) (ltb room leastRoom) goes .1) in
+    (omega (arith, r .0), omega (arith, r .1, f .1, length-append (s .text) (m .text)), r .2))
+
+-- of a call, refused or not
+pub record Within (chunk out : List ℕ) (d : Told) : Type 0 where
+  pub taken : d .taken ≤ length chunk
+  pub written : d .written ≤ length out
+  pub records : d .tape .records ≤ mostRecords
+
+pub listed-within : (t : Tape) (chunk out : List ℕ) → t .records ≤ mostRecords → Within chunk out (listed t chunk out)
+unfolding listed
+listed-within t chunk out few =
+    cond-elim (Within chunk out) (badTape t) (λ bad. record { taken = zero-le; written = zero-le; records = few })
+    (λ fine. cond-elim (Within chunk out) (ltb (length out) leastRoom) (λ short. record { taken = zero-le; written = zero-le; records = few })
+    (λ roomy. let g = going-within chunk (length out) t fine few in record { taken = g .0; written = g .1; records = g .2 }))
+
+-- ---- it takes something
+
+-- where there is room and something further is read, a chunk that has a byte goes down
+pub listed-some : (t : Tape) (b : ℕ) (bs out : List ℕ) → badTape t ≡ false → leastRoom ≤ length out → isOver (t .next) ≡ false
+    → 0 < listed t (b ∷ bs) out .taken
+listed-some t b bs out fine roomy more =
+    rw (
+      ap (λ (d : Told). d .taken) (lists-chunk t (b ∷ bs) out fine roomy),
+      ap (λ (w : Went). w .taken)
+          (going-step (length out) t b bs more roomy),
+    ) (omega arith)
+
+-- ---- no call of a session is refused where there is room
+
+pub fresh-fine : badTape freshTape ≡ false
+fresh-fine = refl
+
+going-fine : (chunk : List ℕ) (room : ℕ) (t : Tape) → badTape t ≡ false → badTape (going room t chunk .tape) ≡ false
+unfolding going
+going-fine [] room t fine = fine
+going-fine (b ∷ bs) room t fine =
+    let s = stepped t b in
+    let rest = going-fine bs (room - length (s .text)) (s .tape) (step-fine t b fine) in
+    cond-elim (λ (g : Went). badTape (g .tape) ≡ false) (isOver (t .next) || ltb room leastRoom) (λ stops. fine) (λ goes. rest)
+
+-- a call leaves a tape that it does not refuse so
+pub listed-fine : (t : Tape) (chunk out : List ℕ) → badTape t ≡ false → badTape (listed t chunk out .tape) ≡ false
+unfolding listed
+listed-fine t chunk out fine =
+    rw fine
+    (cond-elim (λ (d : Told). badTape (d .tape) ≡ false) (ltb (length out) leastRoom) (λ short. fine)
+    (λ roomy. going-fine chunk (length out) t fine))

@@ -1,0 +1,27 @@
+// What the next byte of a tape is.
+use crate::limits::MOST_RECORDS;
+use crate::side::Side;
+ghost use mathlib.Core.Path.{_≡_};
+ghost use Rattle.tape.specs.Taping.{behindKind};
+
+// A record's kind, its body, or nothing that is read: an unknown kind came, or a byte behind the last permitted record.
+pub enum Next {
+    Kind,
+    Body(Side),
+    Bad,
+    Full,
+}
+
+// Behind a kind byte that follows so many whole records.
+pub(crate) fn behind_kind(records: u32, kind: u8) -> Next
+    ensures { λ r. ⌜ r ≡ behindKind records kind ⌝ }
+{
+    if records == MOST_RECORDS {
+        return Next::Full;
+    }
+    match kind {
+        0x01 => Next::Body(Side::Point),
+        0x02 => Next::Body(Side::Addressed),
+        _ => Next::Bad,
+    }
+}
