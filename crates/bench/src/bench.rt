@@ -1,0 +1,45 @@
+// What lives from record to record.
+use crate::buffer::MOST_LENGTH;
+use crate::buffer::UNTOUCHED;
+use crate::line::put_short;
+use link::line::MASTER;
+use link::receiver::Receiver;
+use reader::reader::Reader;
+
+// A receiver of each line, and a point reader with its two buffers.
+pub struct Bench {
+    pub point: Receiver,
+    pub addressed: Receiver,
+    pub reader: Reader,
+    pub store: [u8; MOST_LENGTH],
+    pub out: [u8; MOST_LENGTH],
+}
+
+// After a record: what lives on, and where the record's line ends.
+pub struct Done {
+    pub bench: Bench,
+    pub end: usize,
+}
+
+impl Bench {
+    pub fn fresh() -> Bench {
+        let addressed = Receiver::addressed(MASTER).receiver;
+        Bench {
+            point: Receiver::point(),
+            addressed,
+            reader: Reader::fresh(),
+            store: [UNTOUCHED; MOST_LENGTH],
+            out: [UNTOUCHED; MOST_LENGTH],
+        }
+    }
+
+    // A record that leaves this bench behind, and a line that ends here.
+    pub fn done(self, end: usize) -> Done {
+        Done { bench: self, end }
+    }
+
+    // A payload that is shorter than its fixed part changes nothing.
+    pub fn short(self, text: &mut [u8], at: usize) -> Done {
+        self.done(put_short(text, at))
+    }
+}

@@ -1,0 +1,22 @@
+// The check values.
+use crate::line::put_bytes;
+use link::fcs::fcs;
+use link::fcs::residue;
+use link::sum::sum;
+use text::hex::put_pairs;
+
+// The FCS of the bytes, and the register not inverted.
+pub fn put_fcs(bytes: &[u8], text: &mut [u8], at: usize) -> usize {
+    let at = put_register(fcs(bytes), text, at);
+    put_register(residue(bytes), text, at)
+}
+
+// Four hex digits.
+fn put_register(value: u16, text: &mut [u8], at: usize) -> usize {
+    let at = put_bytes(&[(value / 256) as u8], text, at);
+    put_pairs(&[(value % 256) as u8], text, at).end
+}
+
+pub fn put_sum(bytes: &[u8], text: &mut [u8], at: usize) -> usize {
+    put_bytes(&[sum(bytes)], text, at)
+}

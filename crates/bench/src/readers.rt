@@ -1,0 +1,192 @@
+// The point reader.
+use crate::bench::Bench;
+use crate::bench::Done;
+use crate::buffer::front;
+use crate::buffer::front_mut;
+use crate::buffer::length;
+use crate::line::put_bytes;
+use crate::line::put_number;
+use crate::line::put_refusal;
+use crate::line::put_word;
+use link::event::Event;
+use reader::buffer::Buffer;
+use reader::buffer::to_send;
+use reader::header::HEADER_LENGTH;
+use reader::header::header;
+use reader::memory::Memory;
+use reader::parameter::Parameters;
+use reader::reader::Answer;
+use reader::reader::Reader;
+
+// How many bytes of each buffer's front are lent.
+struct Rooms {
+    store: usize,
+    out: usize,
+}
+
+// Payload: event, antenna count, store room, out room, antenna, content.
+pub fn answer(bench: Bench, payload: &[u8], text: &mut [u8], at: usize) -> Done {
+    if payload.len() < 4 {
+        return bench.short(text, at);
+    }
+    let count = length(payload[1]);
+    let rest = &payload[4..];
+    if rest.len() < count {
+        return bench.short(text, at);
+    }
+    let rooms = Rooms {
+        store: length(payload[2]),
+        out: length(payload[3]),
+    };
+    let antenna = front(rest, count);
+    let content = &rest[count..];
+    answer_event(bench, event(payload[0]), content, antenna, rooms, text, at)
+}
+
+fn answer_event(
+    mut bench: Bench,
+    event: Event,
+    content: &[u8],
+    antenna: &[u8],
+    rooms: Rooms,
+    text: &mut [u8],
+    at: usize,
+) -> Done {
+    let reader = bench.reader;
+    let mut store = bench.store;
+    let mut out = bench.out;
+    let lent_store = front_mut(&mut store, rooms.store);
+    let lent_out = front_mut(&mut out, rooms.out);
+    let header = device_header();
+    let answer = reader.answer(event, content, header, antenna, lent_store, lent_out);
+    let reader = answer.reader;
+    bench.reader = reader;
+    bench.store = store;
+    bench.out = out;
+    let store_front = front(&store, rooms.store);
+    let out_front = front(&out, rooms.out);
+    let at = put_answer(answer, store_front, out_front, text, at);
+    bench.done(put_reader(reader, text, at))
+}
+
+// The bytes 00, 01, .. 27: a name of 20 bytes, and five numbers, low byte first.
+fn device_header() -> [u8; HEADER_LENGTH] {
+    let name = *b"\x00\x01\x02\x03\x04\x05\x06\x07\x08\x09\x0A\x0B\x0C\x0D\x0E\x0F\x10\x11\x12\x13";
+    header(
+        name,
+        0x17161514,
+        0x1B1A1918,
+        0x1F1E1D1C,
+        0x23222120,
+        0x27262524,
+    )
+}
+
+fn event(byte: u8) -> Event {
+    match byte {
+        1 => Event::Frame,
+        2 => Event::Check,
+        3 => Event::Short,
+        4 => Event::Long,
+        5 => Event::Pair,
+        6 => Event::Addr,
+        _ => Event::None,
+    }
+}
+
+fn put_answer<'a>(
+    answer: Answer,
+    store: &'a [u8],
+    out: &'a [u8],
+    text: &mut [u8],
+    at: usize,
+) -> usize {
+    let refusal = answer.refusal;
+    let buffer = answer.buffer;
+    let length = answer.length;
+    let at = put_refusal(refusal, text, at);
+    let at = put_buffer(buffer, text, at);
+    let at = put_number(length, text, at);
+    put_bytes(to_send(buffer, length, store, out), text, at)
+}
+
+fn put_buffer(buffer: Buffer, text: &mut [u8], at: usize) -> usize {
+    match buffer {
+        Buffer::Out => put_word(b"out", text, at),
+        Buffer::Store => put_word(b"store", text, at),
+    }
+}
+
+// The reader's record: the parameters, and the last executed command with its length.
+fn put_reader(reader: Reader, text: &mut [u8], at: usize) -> usize {
+    let parameters = reader.parameters;
+    let settings = parameters.settings;
+    let cell = parameters.cell;
+    let at = put_bytes(&[parameters.speed], text, at);
+    let at = put_bytes(&settings, text, at);
+    let at = put_bytes(&cell, text, at);
+    let memory = reader.memory;
+    match memory {
+        Memory::None => put_word(b"- -", text, at),
+        Memory::Last {
+            identifier,
+            command,
+            length,
+        } => {
+            let at = put_bytes(&[identifier, command], text, at);
+            put_number(length, text, at)
+        }
+    }
+}
+
+pub fn power_on(mut bench: Bench, text: &mut [u8], at: usize) -> Done {
+    let reader = bench.reader;
+    let powered = reader.power_on();
+    let refusal = powered.refusal;
+    let reader = powered.reader;
+    bench.reader = reader;
+    let at = put_refusal(refusal, text, at);
+    bench.done(put_reader(reader, text, at))
+}
+
+// Payload: speed, parameter 05, parameter 80, has, identifier, command, length. Puts no field.
+pub fn set_reader(mut bench: Bench, payload: &[u8], text: &mut [u8], at: usize) -> Done {
+    if payload.len() < 17 {
+        return bench.short(text, at);
+    }
+    let settings = [payload[1], payload[2], payload[3], payload[4]];
+    let cell = [
+        payload[5],
+        payload[6],
+        payload[7],
+        payload[8],
+        payload[9],
+        payload[10],
+        payload[11],
+        payload[12],
+    ];
+    let parameters = Parameters {
+        speed: payload[0],
+        settings,
+        cell,
+    };
+    let memory = if payload[13] == 0 {
+        Memory::None
+    } else {
+        Memory::Last {
+            identifier: payload[14],
+            command: payload[15],
+            length: length(payload[16]),
+        }
+    };
+    let reader = Reader { parameters, memory };
+    bench.reader = reader;
+    bench.done(at)
+}
+
+pub fn put_buffers(bench: Bench, text: &mut [u8], at: usize) -> Done {
+    let out = bench.out;
+    let store = bench.store;
+    let at = put_bytes(&out, text, at);
+    bench.done(put_bytes(&store, text, at))
+}

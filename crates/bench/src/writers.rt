@@ -1,0 +1,54 @@
+// The frame writers. A writer's buffer is fresh for each record, and the payload's first byte is its room.
+use crate::buffer::MOST_LENGTH;
+use crate::buffer::UNTOUCHED;
+use crate::buffer::front;
+use crate::buffer::front_mut;
+use crate::buffer::length;
+use crate::line::put_bytes;
+use crate::line::put_number;
+use crate::line::put_refusal;
+use crate::line::put_short;
+use link::image::image_length;
+use link::refusal::Counted;
+use link::writer::write_addressed;
+use link::writer::write_point;
+
+// Payload: room, identifier, command, data.
+pub fn put_point_frame(payload: &[u8], text: &mut [u8], at: usize) -> usize {
+    if payload.len() < 3 {
+        return put_short(text, at);
+    }
+    let room = length(payload[0]);
+    let mut buffer = [UNTOUCHED; MOST_LENGTH];
+    let lent = front_mut(&mut buffer, room);
+    let written = write_point(payload[1], payload[2], &payload[3..], lent);
+    put_written(written, front(&buffer, room), text, at)
+}
+
+// Payload: room, address, identifier, command, data.
+pub fn put_addressed_frame(payload: &[u8], text: &mut [u8], at: usize) -> usize {
+    if payload.len() < 4 {
+        return put_short(text, at);
+    }
+    let room = length(payload[0]);
+    let mut buffer = [UNTOUCHED; MOST_LENGTH];
+    let lent = front_mut(&mut buffer, room);
+    let written = write_addressed(payload[1], payload[2], payload[3], &payload[4..], lent);
+    put_written(written, front(&buffer, room), text, at)
+}
+
+pub fn put_image_length(content: &[u8], text: &mut [u8], at: usize) -> usize {
+    put_counted(image_length(content), text, at)
+}
+
+// What a writer answered, and the buffer that it was lent.
+pub fn put_written(written: Counted, buffer: &[u8], text: &mut [u8], at: usize) -> usize {
+    let at = put_counted(written, text, at);
+    put_bytes(buffer, text, at)
+}
+
+fn put_counted(counted: Counted, text: &mut [u8], at: usize) -> usize {
+    let refusal = counted.refusal;
+    let at = put_refusal(refusal, text, at);
+    put_number(counted.count, text, at)
+}

@@ -1,0 +1,123 @@
+-- `list_tape` meets its contract: the buffers keep their lengths, and the last line ends within its own.
+-- Assumes nothing.
+use mathlib.Core.Path.{_≡_, refl, sym, ap}
+use Prim.Native.Nat.{_≤_, zero-le}
+use native.Mathlib.Omega.{arith}
+use borrow.Author.Needs.{needs}
+use lib.ListN.{length}
+use lib.Seq.{length-take-le}
+use Rattle.link.specs.Laying.{Ended}
+use Rattle.link.proofs.Laws.Laying.{put-within}
+use Rattle.tape.specs.declared.tape.Tape.{Tape}
+use Rattle.tape.specs.Limits.{mostRecords}
+use Rattle.tape.specs.Taping.{lastOf}
+use Rattle.listing.proofs.list_tape.Statement.{statement}
+use Rattle.listing.proofs.list_tape.Tie as tie
+
+abbrev Inv-loop : tie.InvT-loop
+Inv-loop text₀ block₀ tape₀ turns₀ text block tape turns =
+    (length text ≡ length text₀) × (length block ≡ 65536) × (tape .records ≤ mostRecords)
+
+abbrev μ-loop : tie.MeasureT-loop
+μ-loop text₀ block₀ tape₀ turns₀ text block tape turns = turns
+
+large-buffer-requires : tie.Need-large-buffer-requires Inv-loop μ-loop
+large-buffer-requires c κs = tt
+
+fresh-requires : tie.Need-fresh-requires Inv-loop μ-loop
+fresh-requires c κs = tt
+
+loop-holds : tie.Need-loop-holds Inv-loop μ-loop
+loop-holds c =
+    (refl, sym (c .before .large-buffer .ensures), omega (arith, ap (λ (t : Tape). t .records) (c .fresh .ensures)))
+
+sub-turns : tie.Need-sub-turns Inv-loop μ-loop
+sub-turns c = omega arith
+
+slice-aggregate-list-block : tie.Need-slice-aggregate-list-block Inv-loop μ-loop
+slice-aggregate-list-block c = sym (c .before .before .loop .inv .1)
+
+list-block-requires : tie.Need-list-block-requires Inv-loop μ-loop
+list-block-requires c κs = c .before .before .before .loop .inv .2
+
+enum-told : tie.Need-enum-told Inv-loop μ-loop
+enum-told c = search needs
+
+loop-less : tie.Need-loop-less Inv-loop μ-loop
+loop-less c =
+    omega (arith, c .before .before .before .before .before .before .before .before .before .loop-test .taken)
+
+loop-again : tie.Need-loop-again Inv-loop μ-loop
+loop-again c =
+    (omega (arith, c .before .before .before .before .before .before .list-block .kept, c .before .before .before .before .before .before .before .before .before .before .loop .inv .0), omega (arith, c .before .before .before .before .before .before .list-block .kept, c .before .before .before .before .before .before .before .before .before .before .loop .inv .1), c .before .before .before .before .before .before .list-block .ensures)
+
+enum-told-2 : tie.Need-enum-told-2 Inv-loop μ-loop
+enum-told-2 c = search needs
+
+loop-less-2 : tie.Need-loop-less-2 Inv-loop μ-loop
+loop-less-2 c =
+    omega (arith, c .before .before .before .before .before .before .before .before .before .loop-test .taken)
+
+loop-again-2 : tie.Need-loop-again-2 Inv-loop μ-loop
+loop-again-2 c =
+    (omega (arith, c .before .before .before .before .before .before .list-block .kept, c .before .before .before .before .before .before .before .before .before .before .loop .inv .0), omega (arith, c .before .before .before .before .before .before .list-block .kept, c .before .before .before .before .before .before .before .before .before .before .loop .inv .1), c .before .before .before .before .before .before .list-block .ensures)
+
+enum-told-3 : tie.Need-enum-told-3 Inv-loop μ-loop
+enum-told-3 c = search needs
+
+same-length : tie.Need-same-length Inv-loop μ-loop
+same-length c =
+    omega (arith, c .before .before .before .before .before .before .list-block .kept, c .before .before .before .before .before .before .before .before .before .before .loop .inv .0)
+
+returns : tie.Need-returns Inv-loop μ-loop
+returns c = tt
+
+write-last-requires : tie.Need-write-last-requires Inv-loop μ-loop
+write-last-requires c κs = tt
+
+slice-reshare-prefix-print : tie.Need-slice-reshare-prefix-print Inv-loop μ-loop
+slice-reshare-prefix-print c =
+    let w = c .before .before .write-last in
+    let l = c .before .before .before .before .before .loop in
+    omega (arith, w .kept, ap (λ (e : Ended). e .end) (w .ensures), put-within (lastOf (l .tape)) (l .text) 0 zero-le)
+
+slice-aggregate-print : tie.Need-slice-aggregate-print Inv-loop μ-loop
+slice-aggregate-print c = sym (length-take-le _ _ (slice-reshare-prefix-print (c .before)))
+
+print-requires : tie.Need-print-requires Inv-loop μ-loop
+print-requires c κs = tt
+
+same-length-2 : tie.Need-same-length-2 Inv-loop μ-loop
+same-length-2 c =
+    omega (arith, c .before .before .before .before .write-last .kept, c .before .before .before .before .before .before .before .loop .inv .0)
+
+returns-2 : tie.Need-returns-2 Inv-loop μ-loop
+returns-2 c = tt
+
+pub list-tape-spec : {M : Type 1} → statement M
+list-tape-spec =
+    tie.close
+    (tie.spec
+    Inv-loop
+    μ-loop
+    large-buffer-requires
+    fresh-requires
+    loop-holds
+    sub-turns
+    slice-aggregate-list-block
+    list-block-requires
+    enum-told
+    loop-less
+    loop-again
+    enum-told-2
+    loop-less-2
+    loop-again-2
+    enum-told-3
+    same-length
+    returns
+    write-last-requires
+    slice-reshare-prefix-print
+    slice-aggregate-print
+    print-requires
+    same-length-2
+    returns-2)

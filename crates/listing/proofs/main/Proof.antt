@@ -1,0 +1,60 @@
+-- `main` meets its contract: the header line ends within the buffer.
+-- Assumes nothing.
+use mathlib.Core.Path.{sym, ap}
+use Prim.Native.Nat.{zero-le}
+use native.Mathlib.Omega.{arith}
+use borrow.Author.Needs.{needs}
+use lib.Seq.{length-take-le}
+use Rattle.link.specs.Laying.{Ended}
+use Rattle.link.proofs.Laws.Laying.{put-within}
+use Rattle.tape.specs.Lines.{headerLine}
+use Rattle.listing.proofs.main.Statement.{statement}
+use Rattle.listing.proofs.main.Tie as tie
+
+large-buffer-requires : tie.Need-large-buffer-requires
+large-buffer-requires c κs = search needs
+
+slice-aggregate-write-header : tie.Need-slice-aggregate-write-header
+slice-aggregate-write-header c = search needs
+
+write-header-requires : tie.Need-write-header-requires
+write-header-requires c κs = search needs
+
+array-share-prefix-text : tie.Need-array-share-prefix-text
+array-share-prefix-text c =
+    let w = c .before .write-header in
+    let text = c .before .before .before .large-buffer .result in
+    omega (arith, w .kept, ap (λ (e : Ended). e .end) (w .ensures), put-within headerLine text 0 zero-le)
+
+slice-aggregate-print : tie.Need-slice-aggregate-print
+slice-aggregate-print c = sym (length-take-le _ _ (array-share-prefix-text (c .before)))
+
+print-requires : tie.Need-print-requires
+print-requires c κs = search needs
+
+slice-aggregate-list-tape : tie.Need-slice-aggregate-list-tape
+slice-aggregate-list-tape c = search needs
+
+list-tape-requires : tie.Need-list-tape-requires
+list-tape-requires c κs = search needs
+
+returns : tie.Need-returns
+returns c = search needs
+
+returns-2 : tie.Need-returns-2
+returns-2 c = search needs
+
+pub main-spec : {M : Type 1} → statement M
+main-spec =
+    tie.close
+    (tie.spec
+    large-buffer-requires
+    slice-aggregate-write-header
+    write-header-requires
+    array-share-prefix-text
+    slice-aggregate-print
+    print-requires
+    slice-aggregate-list-tape
+    list-tape-requires
+    returns
+    returns-2)

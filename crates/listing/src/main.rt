@@ -1,0 +1,134 @@
+// Lists a tape: its bytes on standard input, the listing on standard output.
+use libc::STDERR_FILENO;
+use libc::STDIN_FILENO;
+use libc::STDOUT_FILENO;
+use tape::ends::write_header;
+use tape::ends::write_last;
+use tape::tape::Tape;
+ghost use Prim.Native.Nat.{_≤_};
+ghost use Rattle.tape.specs.Limits.{mostRecords};
+
+// Where the listing stands: more of the tape is read, nothing further of it is, or a write failed.
+enum Course {
+    Reading,
+    Over,
+    Failed,
+}
+
+struct Progress {
+    tape: Tape,
+    course: Course,
+}
+
+// Writes all of `text`, or says why it cannot.
+fn print(text: &[u8]) -> bool {
+    let is_written = io::write_all(STDOUT_FILENO, text);
+    if !is_written {
+        os::fail(b"listing: standard output");
+    }
+    is_written
+}
+
+// Lists all of a chunk that is read; `text` is where the lines are put together.
+fn list_chunk(tape: Tape, chunk: &[u8], text: &mut [u8]) -> Progress
+    requires { ⌜ tape .records ≤ mostRecords ⌝ }
+    ensures { λ r. ⌜ r .tape .records ≤ mostRecords ⌝ }
+{
+    let mut tape = tape;
+    let mut taken: usize = 0;
+    while taken < chunk.len() {
+        let listed = tape.list(&chunk[taken..], text);
+        tape = listed.tape;
+        let written = listed.written;
+        if !print(&text[..written]) {
+            return Progress {
+                tape,
+                course: Course::Failed,
+            };
+        }
+        if listed.taken == 0 {
+            return halted(tape);
+        }
+        taken += listed.taken;
+    }
+    let course = if tape.is_over() {
+        Course::Over
+    } else {
+        Course::Reading
+    };
+    Progress { tape, course }
+}
+
+// Behind a call that took nothing: nothing further is read. Were it refused instead, the listing would not be whole.
+fn halted(tape: Tape) -> Progress
+    requires { ⌜ tape .records ≤ mostRecords ⌝ }
+    ensures { λ r. ⌜ r .tape .records ≤ mostRecords ⌝ }
+{
+    if tape.is_over() {
+        return Progress {
+            tape,
+            course: Course::Over,
+        };
+    }
+    io::write_all(STDERR_FILENO, b"listing: the tape was refused\n");
+    Progress {
+        tape,
+        course: Course::Failed,
+    }
+}
+
+// Reads a block of the tape and lists it. Without one the tape is over.
+fn list_block(tape: Tape, block: &mut [u8], text: &mut [u8]) -> Progress
+    requires { ⌜ tape .records ≤ mostRecords ⌝ }
+    ensures { λ r. ⌜ r .tape .records ≤ mostRecords ⌝ }
+{
+    let got = libc::read(STDIN_FILENO, block);
+    if got < 0 {
+        os::fail(b"listing: standard input");
+        return Progress {
+            tape,
+            course: Course::Failed,
+        };
+    }
+    let count = io::count(got, block);
+    if count == 0 {
+        return Progress {
+            tape,
+            course: Course::Over,
+        };
+    }
+    list_chunk(tape, &block[..count], text)
+}
+
+// No tape is read further than 2^33 - 1 bytes, and a block has one at least.
+const MOST_BLOCKS: u64 = 0x2_0000_0000;
+
+// Lists a whole tape.
+fn list_tape(text: &mut [u8]) {
+    let mut block = io::large_buffer();
+    let mut tape = Tape::fresh();
+    let mut turns = MOST_BLOCKS;
+    while turns > 0 {
+        turns -= 1;
+        let progress = list_block(tape, &mut block, text);
+        tape = progress.tape;
+        let course = progress.course;
+        match course {
+            Course::Reading => {}
+            Course::Over => turns = 0,
+            Course::Failed => return,
+        }
+    }
+    let last = write_last(tape, text);
+    let end = last.end;
+    print(&text[..end]);
+}
+
+fn main() {
+    let mut text = io::large_buffer();
+    let header = write_header(&mut text);
+    let end = header.end;
+    if print(&text[..end]) {
+        list_tape(&mut text);
+    }
+}
