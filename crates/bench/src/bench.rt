@@ -7,22 +7,22 @@ use link::receiver::Receiver;
 use reader::reader::Reader;
 
 // A receiver of each line, and a point reader with its two buffers.
-pub struct Bench {
-    pub point: Receiver,
-    pub addressed: Receiver,
-    pub reader: Reader,
-    pub store: [u8; MOST_LENGTH],
-    pub out: [u8; MOST_LENGTH],
+pub(crate) struct Bench {
+    pub(crate) point: Receiver,
+    pub(crate) addressed: Receiver,
+    pub(crate) reader: Reader,
+    pub(crate) store: [u8; MOST_LENGTH],
+    pub(crate) out: [u8; MOST_LENGTH],
 }
 
 // After a record: what lives on, and where the record's line ends.
-pub struct Done {
-    pub bench: Bench,
-    pub end: usize,
+pub(crate) struct Done {
+    pub(crate) bench: Bench,
+    pub(crate) end: usize,
 }
 
 impl Bench {
-    pub fn fresh() -> Bench {
+    pub(crate) fn fresh() -> Bench {
         let addressed = Receiver::addressed(MASTER).receiver;
         Bench {
             point: Receiver::point(),
@@ -34,12 +34,12 @@ impl Bench {
     }
 
     // A record that leaves this bench behind, and a line that ends here.
-    pub fn done(self, end: usize) -> Done {
+    pub(crate) fn done(self, end: usize) -> Done {
         Done { bench: self, end }
     }
 
     // A payload that is shorter than its fixed part changes nothing.
-    pub fn short(self, text: &mut [u8], at: usize) -> Done {
+    pub(crate) fn short(self, text: &mut [u8], at: usize) -> Done {
         self.done(put_short(text, at))
     }
 }

@@ -1,18 +1,18 @@
 // Buffers, and the parts of them that are lent.
 
 // The most that a byte of the script can say.
-pub const MOST_LENGTH: usize = 255;
+pub(crate) const MOST_LENGTH: usize = 255;
 
 // What a buffer holds until a call writes to it.
-pub const UNTOUCHED: u8 = 0xEE;
+pub(crate) const UNTOUCHED: u8 = 0xEE;
 
 // A byte of the script as a length.
-pub fn length(byte: u8) -> usize {
+pub(crate) fn length(byte: u8) -> usize {
     byte as usize
 }
 
 // The first `length` bytes, or all where there are fewer.
-pub fn front(bytes: &[u8], length: usize) -> &[u8] {
+pub(crate) fn front(bytes: &[u8], length: usize) -> &[u8] {
     if length > bytes.len() {
         return bytes;
     }
@@ -21,7 +21,7 @@ pub fn front(bytes: &[u8], length: usize) -> &[u8] {
 }
 
 // The same, to be written to.
-pub fn front_mut(bytes: &mut [u8], length: usize) -> &mut [u8] {
+pub(crate) fn front_mut(bytes: &mut [u8], length: usize) -> &mut [u8] {
     if length > bytes.len() {
         return bytes;
     }

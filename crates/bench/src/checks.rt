@@ -6,7 +6,7 @@ use link::sum::sum;
 use text::hex::put_pairs;
 
 // The FCS of the bytes, and the register not inverted.
-pub fn put_fcs(bytes: &[u8], text: &mut [u8], at: usize) -> usize {
+pub(crate) fn put_fcs(bytes: &[u8], text: &mut [u8], at: usize) -> usize {
     let at = put_register(fcs(bytes), text, at);
     put_register(residue(bytes), text, at)
 }
@@ -17,6 +17,6 @@ fn put_register(value: u16, text: &mut [u8], at: usize) -> usize {
     put_pairs(&[(value % 256) as u8], text, at).end
 }
 
-pub fn put_sum(bytes: &[u8], text: &mut [u8], at: usize) -> usize {
+pub(crate) fn put_sum(bytes: &[u8], text: &mut [u8], at: usize) -> usize {
     put_bytes(&[sum(bytes)], text, at)
 }

@@ -9,35 +9,35 @@ use text::decimal::put_decimal;
 use text::hex::put_pairs;
 
 // Room for the longest line: both buffers of the reader, with three letters for each of 255 bytes.
-pub const MOST_LINE: usize = 2048;
+pub(crate) const MOST_LINE: usize = 2048;
 
-pub fn put_word(word: &[u8], text: &mut [u8], at: usize) -> usize {
+pub(crate) fn put_word(word: &[u8], text: &mut [u8], at: usize) -> usize {
     let at = put(b" ", text, at).end;
     put(word, text, at).end
 }
 
-pub fn put_number(n: usize, text: &mut [u8], at: usize) -> usize {
+pub(crate) fn put_number(n: usize, text: &mut [u8], at: usize) -> usize {
     let at = put(b" ", text, at).end;
     put_decimal(n as u64, text, at).end
 }
 
-pub fn put_bytes(bytes: &[u8], text: &mut [u8], at: usize) -> usize {
+pub(crate) fn put_bytes(bytes: &[u8], text: &mut [u8], at: usize) -> usize {
     let at = put(b" ", text, at).end;
     put_pairs(bytes, text, at).end
 }
 
 // The number of a refusal; 0 for none.
-pub fn put_refusal(refusal: Refusal, text: &mut [u8], at: usize) -> usize {
+pub(crate) fn put_refusal(refusal: Refusal, text: &mut [u8], at: usize) -> usize {
     put_number(number(refusal) as usize, text, at)
 }
 
 // A payload is shorter than its fixed part.
-pub fn put_short(text: &mut [u8], at: usize) -> usize {
+pub(crate) fn put_short(text: &mut [u8], at: usize) -> usize {
     put_word(b"short", text, at)
 }
 
 // Ends the line and writes it; whether that went well.
-pub fn print(text: &mut [u8], at: usize) -> bool {
+pub(crate) fn print(text: &mut [u8], at: usize) -> bool {
     let end = put(b"\n", text, at).end;
     let is_written = io::write_all(STDOUT_FILENO, front(text, end));
     if !is_written {

@@ -16,7 +16,7 @@ use reader::master::read_reply;
 use reader::request::write_request;
 
 // Payload: room, identifier, code, data.
-pub fn put_request(payload: &[u8], text: &mut [u8], at: usize) -> usize {
+pub(crate) fn put_request(payload: &[u8], text: &mut [u8], at: usize) -> usize {
     if payload.len() < 3 {
         return put_short(text, at);
     }
@@ -28,7 +28,7 @@ pub fn put_request(payload: &[u8], text: &mut [u8], at: usize) -> usize {
 }
 
 // Payload: identifier, code, count of data, data, reply.
-pub fn put_reading(payload: &[u8], text: &mut [u8], at: usize) -> usize {
+pub(crate) fn put_reading(payload: &[u8], text: &mut [u8], at: usize) -> usize {
     if payload.len() < 3 {
         return put_short(text, at);
     }

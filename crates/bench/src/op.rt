@@ -17,7 +17,7 @@ use crate::writers::put_addressed_frame;
 use crate::writers::put_image_length;
 use crate::writers::put_point_frame;
 
-pub enum Op {
+pub(crate) enum Op {
     PointFrame,
     AddressedFrame,
     ImageLength,
@@ -36,12 +36,12 @@ pub enum Op {
 }
 
 // The op that a code names, if there is one.
-pub enum Coded {
+pub(crate) enum Coded {
     Known(Op),
     Unknown,
 }
 
-pub fn with_code(code: u8) -> Coded {
+pub(crate) fn with_code(code: u8) -> Coded {
     match code {
         0x01 => Coded::Known(Op::PointFrame),
         0x02 => Coded::Known(Op::AddressedFrame),
@@ -63,7 +63,7 @@ pub fn with_code(code: u8) -> Coded {
 }
 
 // Does what the op asks for with this payload, and puts its fields.
-pub fn perform(bench: Bench, op: Op, payload: &[u8], text: &mut [u8], at: usize) -> Done {
+pub(crate) fn perform(bench: Bench, op: Op, payload: &[u8], text: &mut [u8], at: usize) -> Done {
     match op {
         Op::PointFrame => bench.done(put_point_frame(payload, text, at)),
         Op::AddressedFrame => bench.done(put_addressed_frame(payload, text, at)),

@@ -25,7 +25,7 @@ struct Rooms {
 }
 
 // Payload: event, antenna count, store room, out room, antenna, content.
-pub fn answer(bench: Bench, payload: &[u8], text: &mut [u8], at: usize) -> Done {
+pub(crate) fn answer(bench: Bench, payload: &[u8], text: &mut [u8], at: usize) -> Done {
     if payload.len() < 4 {
         return bench.short(text, at);
     }
@@ -139,7 +139,7 @@ fn put_reader(reader: Reader, text: &mut [u8], at: usize) -> usize {
     }
 }
 
-pub fn power_on(mut bench: Bench, text: &mut [u8], at: usize) -> Done {
+pub(crate) fn power_on(mut bench: Bench, text: &mut [u8], at: usize) -> Done {
     let reader = bench.reader;
     let powered = reader.power_on();
     let refusal = powered.refusal;
@@ -150,7 +150,7 @@ pub fn power_on(mut bench: Bench, text: &mut [u8], at: usize) -> Done {
 }
 
 // Payload: speed, parameter 05, parameter 80, has, identifier, command, length. Puts no field.
-pub fn set_reader(mut bench: Bench, payload: &[u8], text: &mut [u8], at: usize) -> Done {
+pub(crate) fn set_reader(mut bench: Bench, payload: &[u8], text: &mut [u8], at: usize) -> Done {
     if payload.len() < 17 {
         return bench.short(text, at);
     }
@@ -184,7 +184,7 @@ pub fn set_reader(mut bench: Bench, payload: &[u8], text: &mut [u8], at: usize) 
     bench.done(at)
 }
 
-pub fn put_buffers(bench: Bench, text: &mut [u8], at: usize) -> Done {
+pub(crate) fn put_buffers(bench: Bench, text: &mut [u8], at: usize) -> Done {
     let out = bench.out;
     let store = bench.store;
     let at = put_bytes(&out, text, at);

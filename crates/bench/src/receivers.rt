@@ -15,7 +15,7 @@ use link::receiver::Heard;
 use link::receiver::Receiver;
 use link::refusal::number;
 
-pub fn hear_point(mut bench: Bench, piece: &[u8], text: &mut [u8], at: usize) -> Done {
+pub(crate) fn hear_point(mut bench: Bench, piece: &[u8], text: &mut [u8], at: usize) -> Done {
     let receiver = bench.point;
     let heard = receiver.receive(piece);
     let receiver = heard.receiver;
@@ -23,7 +23,7 @@ pub fn hear_point(mut bench: Bench, piece: &[u8], text: &mut [u8], at: usize) ->
     bench.done(put_heard(heard, text, at))
 }
 
-pub fn hear_addressed(mut bench: Bench, piece: &[u8], text: &mut [u8], at: usize) -> Done {
+pub(crate) fn hear_addressed(mut bench: Bench, piece: &[u8], text: &mut [u8], at: usize) -> Done {
     let receiver = bench.addressed;
     let heard = receiver.receive(piece);
     let receiver = heard.receiver;
@@ -55,7 +55,7 @@ fn put_event(event: Event, text: &mut [u8], at: usize) -> usize {
 }
 
 // Payload: address. Where it is refused the receiver stays.
-pub fn new_station(mut bench: Bench, payload: &[u8], text: &mut [u8], at: usize) -> Done {
+pub(crate) fn new_station(mut bench: Bench, payload: &[u8], text: &mut [u8], at: usize) -> Done {
     if payload.len() < 1 {
         return bench.short(text, at);
     }
@@ -69,7 +69,7 @@ pub fn new_station(mut bench: Bench, payload: &[u8], text: &mut [u8], at: usize)
 }
 
 // Payload: line, address, phase, count, fill. Puts no field.
-pub fn set_receiver(mut bench: Bench, payload: &[u8], text: &mut [u8], at: usize) -> Done {
+pub(crate) fn set_receiver(mut bench: Bench, payload: &[u8], text: &mut [u8], at: usize) -> Done {
     if payload.len() < 5 {
         return bench.short(text, at);
     }

@@ -8,7 +8,7 @@ use crate::op::with_code;
 use libc::STDIN_FILENO;
 
 // What the script goes on with: a record, its end, a record that is cut off, or an unknown op.
-pub enum Next {
+pub(crate) enum Next {
     Record(Op),
     End,
     Cut,
@@ -16,11 +16,11 @@ pub enum Next {
 }
 
 // A record has its op's code, and its payload is the first `length` bytes; without a record all are 0.
-pub struct Record {
-    pub next: Next,
-    pub code: u8,
-    pub payload: [u8; MOST_LENGTH],
-    pub length: usize,
+pub(crate) struct Record {
+    pub(crate) next: Next,
+    pub(crate) code: u8,
+    pub(crate) payload: [u8; MOST_LENGTH],
+    pub(crate) length: usize,
 }
 
 enum Byte {
@@ -28,7 +28,7 @@ enum Byte {
     None,
 }
 
-pub fn read_record() -> Record {
+pub(crate) fn read_record() -> Record {
     let Byte::Read(code) = read_byte() else {
         return Record::without(Next::End);
     };

@@ -14,7 +14,7 @@ use link::writer::write_addressed;
 use link::writer::write_point;
 
 // Payload: room, identifier, command, data.
-pub fn put_point_frame(payload: &[u8], text: &mut [u8], at: usize) -> usize {
+pub(crate) fn put_point_frame(payload: &[u8], text: &mut [u8], at: usize) -> usize {
     if payload.len() < 3 {
         return put_short(text, at);
     }
@@ -26,7 +26,7 @@ pub fn put_point_frame(payload: &[u8], text: &mut [u8], at: usize) -> usize {
 }
 
 // Payload: room, address, identifier, command, data.
-pub fn put_addressed_frame(payload: &[u8], text: &mut [u8], at: usize) -> usize {
+pub(crate) fn put_addressed_frame(payload: &[u8], text: &mut [u8], at: usize) -> usize {
     if payload.len() < 4 {
         return put_short(text, at);
     }
@@ -37,12 +37,12 @@ pub fn put_addressed_frame(payload: &[u8], text: &mut [u8], at: usize) -> usize 
     put_written(written, front(&buffer, room), text, at)
 }
 
-pub fn put_image_length(content: &[u8], text: &mut [u8], at: usize) -> usize {
+pub(crate) fn put_image_length(content: &[u8], text: &mut [u8], at: usize) -> usize {
     put_counted(image_length(content), text, at)
 }
 
 // What a writer answered, and the buffer that it was lent.
-pub fn put_written(written: Counted, buffer: &[u8], text: &mut [u8], at: usize) -> usize {
+pub(crate) fn put_written(written: Counted, buffer: &[u8], text: &mut [u8], at: usize) -> usize {
     let at = put_counted(written, text, at);
     put_bytes(buffer, text, at)
 }
