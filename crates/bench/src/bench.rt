@@ -2,9 +2,9 @@
 use crate::buffer::MOST_LENGTH;
 use crate::buffer::UNTOUCHED;
 use crate::line::put_short;
-use link::line::MASTER;
 use link::receiver::Receiver;
 use reader::reader::Reader;
+use station::line::MASTER;
 
 // A receiver of each line, and a point reader with its two buffers.
 pub(crate) struct Bench {

@@ -1,10 +1,10 @@
 // The line that a record writes. Its text so far is the first `at` bytes of a lent buffer; a call puts a blank and a field behind them,
 // and answers where the text then ends.
 use crate::buffer::front;
+use ground::laying::put;
+use ground::refusal::Refusal;
+use ground::refusal::number;
 use libc::STDOUT_FILENO;
-use link::laying::put;
-use link::refusal::Refusal;
-use link::refusal::number;
 use text::decimal::put_decimal;
 use text::hex::put_pairs;
 

@@ -2,21 +2,21 @@
 // says what a script is.
 mod bench;
 mod buffer;
-mod checks;
 mod line;
 mod masters;
 mod op;
 mod readers;
 mod receivers;
 mod script;
+mod values;
 mod writers;
 
 use bench::Bench;
 use buffer::front;
+use ground::laying::put;
 use line::MOST_LINE;
 use line::print;
 use line::put_number;
-use link::laying::put;
 use op::Op;
 use op::perform;
 use script::Next;

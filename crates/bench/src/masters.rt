@@ -10,10 +10,10 @@ use crate::line::put_refusal;
 use crate::line::put_short;
 use crate::line::put_word;
 use crate::writers::put_written;
-use reader::master::Meaning;
-use reader::master::data_of;
-use reader::master::read_reply;
-use reader::request::write_request;
+use master::master::Meaning;
+use master::master::data_of;
+use master::master::read_reply;
+use request::request::write_request;
 
 // Payload: room, identifier, code, data.
 pub(crate) fn put_request(payload: &[u8], text: &mut [u8], at: usize) -> usize {

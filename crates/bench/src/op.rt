@@ -1,8 +1,6 @@
 // The ops of a script.
 use crate::bench::Bench;
 use crate::bench::Done;
-use crate::checks::put_fcs;
-use crate::checks::put_sum;
 use crate::masters::put_reading;
 use crate::masters::put_request;
 use crate::readers::answer;
@@ -13,6 +11,8 @@ use crate::receivers::hear_addressed;
 use crate::receivers::hear_point;
 use crate::receivers::new_station;
 use crate::receivers::set_receiver;
+use crate::values::put_fcs;
+use crate::values::put_sum;
 use crate::writers::put_addressed_frame;
 use crate::writers::put_image_length;
 use crate::writers::put_point_frame;

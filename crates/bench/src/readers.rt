@@ -8,15 +8,15 @@ use crate::line::put_bytes;
 use crate::line::put_number;
 use crate::line::put_refusal;
 use crate::line::put_word;
-use link::event::Event;
 use reader::buffer::Buffer;
 use reader::buffer::to_send;
-use reader::header::HEADER_LENGTH;
-use reader::header::header;
 use reader::memory::Memory;
-use reader::parameter::Parameters;
+use reader::parameters::Parameters;
 use reader::reader::Answer;
 use reader::reader::Reader;
+use request::header::HEADER_LENGTH;
+use request::header::header;
+use station::event::Event;
 
 // How many bytes of each buffer's front are lent.
 struct Rooms {

@@ -7,13 +7,13 @@ use crate::line::put_bytes;
 use crate::line::put_number;
 use crate::line::put_refusal;
 use crate::line::put_word;
-use link::event::Event;
-use link::limits::MOST_CONTENT;
-use link::line::Line;
-use link::phase::Phase;
+use ground::refusal::number;
 use link::receiver::Heard;
 use link::receiver::Receiver;
-use link::refusal::number;
+use station::event::Event;
+use station::line::Line;
+use station::phase::Phase;
+use wire::limits::MOST_CONTENT;
 
 pub(crate) fn hear_point(mut bench: Bench, piece: &[u8], text: &mut [u8], at: usize) -> Done {
     let receiver = bench.point;

@@ -8,10 +8,10 @@ use crate::line::put_bytes;
 use crate::line::put_number;
 use crate::line::put_refusal;
 use crate::line::put_short;
-use link::image::image_length;
-use link::refusal::Counted;
+use ground::refusal::Counted;
 use link::writer::write_addressed;
 use link::writer::write_point;
+use wire::image::image_length;
 
 // Payload: room, identifier, command, data.
 pub(crate) fn put_point_frame(payload: &[u8], text: &mut [u8], at: usize) -> usize {

@@ -1,8 +1,8 @@
 // Writes the request for a reader's device header, as it goes over the point line, and prints its bytes; then hands them to a receiver
 // and prints the content of the frame that it hears.
 use libc::STDOUT_FILENO;
-use link::event::Event;
 use link::receiver::Receiver;
+use station::event::Event;
 
 // The upper-case hexadecimal digit of a number's low four bits.
 fn digit(n: u8) -> u8 {

@@ -1,21 +1,6 @@
 -- Theorems about the definitions of specs/, each with the noun it speaks of.
-pub mod Choice
-pub mod Inverse
-pub mod Lists
-pub mod Table
-pub mod Laying
-pub mod Stuffing
-pub mod Unstuffing
-pub mod Image
-pub mod Xor
-pub mod Fcs
 pub mod Frame
-pub mod Right
-pub mod Refusals
-pub mod Events
-pub mod Writing
-pub mod Address
-pub mod Turning
+pub mod Writers
 pub mod Fit
 pub mod Receiving
 pub mod Bytes

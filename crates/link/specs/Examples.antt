@@ -4,14 +4,15 @@ use Prim.Native.Nat.{ℕ}
 use mathlib.Core.Path.{_≡_}
 use mathlib.Core.Bool.{true}
 use mathlib.Core.List.{List, [], _∷_, _++_}
-use Rattle.link.specs.Stuffing.{stuffing}
-use Rattle.link.specs.Image.{image}
-use Rattle.link.specs.declared.frame.Check.{Check}
-use Rattle.link.specs.declared.frame.Check.the-variants.{Fcs, Sum}
-use Rattle.link.specs.declared.line.Line.{Line}
-use Rattle.link.specs.declared.line.Line.the-variants.{Point, Addressed}
-use Rattle.link.specs.Frame.{withCheck, isRight, pointContent, addressedContent}
-use Rattle.link.specs.Events.{Name, FRAME, CHECK, SHORT, LONG, PAIR, ADDR}
+use Rattle.checks.specs.declared.kind.Check.{Check}
+use Rattle.checks.specs.declared.kind.Check.the-variants.{Fcs, Sum}
+use Rattle.checks.specs.Check.{withCheck, isRight}
+use Rattle.wire.specs.Stuffing.{stuffing}
+use Rattle.wire.specs.Image.{image}
+use Rattle.station.specs.declared.line.Line.{Line}
+use Rattle.station.specs.declared.line.Line.the-variants.{Point, Addressed}
+use Rattle.station.specs.Events.{Name, FRAME, CHECK, SHORT, LONG, PAIR, ADDR}
+use Rattle.link.specs.Frame.{pointContent, addressedContent}
 use Rattle.link.specs.Receiving.{fresh, received}
 use Rattle.link.specs.Hearing.{toldAt, tells}
 use lib.ListN.{replicate}

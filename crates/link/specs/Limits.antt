@@ -1,15 +1,7 @@
--- The limits of document 01, each under one name.
--- Assumes nothing.
+-- The most bytes of a frame's data. 01, Layout of a frame: so data is at most 60. Assumes nothing.
 use Prim.Native.Nat.{ℕ, _-_}
+use Rattle.wire.specs.Limits.{mostContent}
+use Rattle.station.specs.Limits.{leastContent}
 
--- 01, Layout of a frame: content is at most 64 bytes
-abbrev pub mostContent : ℕ
-mostContent = 64
-
--- 01, Layout of a frame, the table: the least content, a frame with no data, is 4 bytes on both lines
-abbrev pub leastContent : ℕ
-leastContent = 4
-
--- 01, Layout of a frame: so data is at most 60
 abbrev pub mostData : ℕ
 mostData = mostContent - leastContent

@@ -6,15 +6,17 @@ use mathlib.Core.Path.{_≡_}
 use mathlib.Core.Bool.{true}
 use mathlib.Core.List.{List, [], _∷_, _++_, List·Memᴰ}
 use lib.ListN.{length}
-use Rattle.link.specs.declared.line.Line.{Line}
-use Rattle.link.specs.declared.line.Line.the-variants.{Point, Addressed}
-use Rattle.link.specs.Limits.{leastContent, mostContent}
-use Rattle.link.specs.Address.{takes}
-use Rattle.link.specs.Image.{image}
+use Rattle.wire.specs.Limits.{mostContent}
+use Rattle.station.specs.Limits.{leastContent}
+use Rattle.wire.specs.Image.{image}
+use Rattle.wire.specs.Writing.{After, putting}
+use Rattle.station.specs.declared.line.Line.{Line}
+use Rattle.station.specs.declared.line.Line.the-variants.{Point, Addressed}
+use Rattle.station.specs.Address.{takes}
+use Rattle.station.specs.Line.{checked, Taken}
+use Rattle.station.specs.Events.{FRAME}
 use Rattle.link.specs.Frame.{pointContent, addressedContent}
-use Rattle.link.specs.Line.{checked, Taken}
-use Rattle.link.specs.Writing.{After, putting, pointWritten, addressedWritten}
-use Rattle.link.specs.Events.{FRAME}
+use Rattle.link.specs.Writers.{pointWritten, addressedWritten}
 use Rattle.link.specs.Hearing.{Told, toldAt}
 
 -- The complete wire image of a content stands in the stream and ends at this place. The content is this front with its check behind it;

@@ -5,25 +5,25 @@ use mathlib.Core.Bool.{Bool, true, false, cond, _||_, not}
 use mathlib.Core.List.{List, [], _∷_}
 use lib.Dec.{ltb}
 use lib.ListN.{length, take, set, replicate}
-use Rattle.link.specs.declared.refusal.Refusal.the-variants.{BadAddress, BadState}
-use Rattle.link.specs.declared.frame.Check.{Check}
-use Rattle.link.specs.declared.event.Verdict.{Verdict}
-use Rattle.link.specs.declared.event.Event.the-variants.{None}
-use Rattle.link.specs.declared.line.Line.{Line}
-use Rattle.link.specs.declared.line.Line.the-variants.{Addressed}
-use Rattle.link.specs.declared.phase.Phase.{Phase}
-use Rattle.link.specs.declared.phase.Phase.the-variants.{Outside, Inside, Pending}
-use Rattle.link.specs.declared.turn.Turn.{Turn}
-use Rattle.link.specs.declared.turn.Turn.the-variants.{Rest, Begin, Wait, Keep, Stop, Tell}
+use Rattle.ground.specs.declared.refusal.Refusal.the-variants.{BadAddress, BadState}
+use Rattle.ground.specs.Refusals.{number}
+use Rattle.checks.specs.declared.kind.Check.{Check}
+use Rattle.wire.specs.Limits.{mostContent}
+use Rattle.station.specs.declared.event.Verdict.{Verdict}
+use Rattle.station.specs.declared.event.Event.the-variants.{None}
+use Rattle.station.specs.declared.line.Line.{Line}
+use Rattle.station.specs.declared.line.Line.the-variants.{Addressed}
+use Rattle.station.specs.declared.phase.Phase.{Phase}
+use Rattle.station.specs.declared.phase.Phase.the-variants.{Outside, Inside, Pending}
+use Rattle.station.specs.declared.turn.Turn.{Turn}
+use Rattle.station.specs.declared.turn.Turn.the-variants.{Rest, Begin, Wait, Keep, Stop, Tell}
+use Rattle.station.specs.Address.{isStation}
+use Rattle.station.specs.Line.{checkOn, hasStation}
+use Rattle.station.specs.Events.{Name, named, telling, silent, verdict}
+use Rattle.station.specs.Turning.{turn}
 use Rattle.link.specs.declared.receiver.Receiver.{Receiver}
 use Rattle.link.specs.declared.receiver.Fresh.{Fresh}
 use Rattle.link.specs.declared.receiver.Heard.{Heard}
-use Rattle.link.specs.Limits.{mostContent}
-use Rattle.link.specs.Address.{isStation}
-use Rattle.link.specs.Line.{checkOn, hasStation}
-use Rattle.link.specs.Refusals.{number}
-use Rattle.link.specs.Events.{Name, named, telling, silent, verdict}
-use Rattle.link.specs.Turning.{turn}
 
 abbrev pub being : Line → Phase → ℕ → List ℕ → Receiver
 being line phase count content = record { line = line; phase = phase; count = count; content = content }

@@ -1,20 +1,20 @@
 // The receiver of either line.
-use crate::event::Event;
-use crate::event::SILENT;
-use crate::event::Verdict;
-use crate::event::at_stop;
-use crate::limits::MOST_CONTENT;
-use crate::line::Line;
-use crate::line::check_on;
-use crate::line::has_station;
-use crate::line::is_station;
-use crate::phase::Phase;
-use crate::refusal::Refusal;
-use crate::turn::Turn;
-use crate::turn::at_byte;
+use ground::refusal::Refusal;
+use station::event::Event;
+use station::event::SILENT;
+use station::event::Verdict;
+use station::event::at_stop;
+use station::line::Line;
+use station::line::check_on;
+use station::line::has_station;
+use station::line::is_station;
+use station::phase::Phase;
+use station::turn::Turn;
+use station::turn::at_byte;
+use wire::limits::MOST_CONTENT;
 ghost use mathlib.Core.Path.{_≡_};
 ghost use Prim.Native.Nat.{_≤_};
-ghost use Rattle.link.specs.Limits.{mostContent};
+ghost use Rattle.wire.specs.Limits.{mostContent};
 ghost use Rattle.link.specs.Receiving.{fresh as freshOf, outside as outsideOf, made, freshMade, saying, answering, heard, refusedState, received};
 
 // A receiver between two calls: its line, where it is, and the first `count` bytes of `content` as the content so far.

@@ -1,12 +1,13 @@
 // The frame writers of both lines.
-use crate::frame::Check;
-use crate::frame::write_frame;
 use crate::limits::MOST_DATA;
-use crate::line::LAST_ADDRESS;
-use crate::refusal::Counted;
-use crate::refusal::Refusal;
+use checks::kind::Check;
+use frames::frame::write_frame;
+use ground::refusal::Counted;
+use ground::refusal::Refusal;
+use station::line::LAST_ADDRESS;
 ghost use mathlib.Core.Path.{_≡_};
-ghost use Rattle.link.specs.Writing.{after, pointWritten, addressedWritten};
+ghost use Rattle.wire.specs.Writing.{after};
+ghost use Rattle.link.specs.Writers.{pointWritten, addressedWritten};
 
 // Writes the image of a point frame to the front of `out`, and answers its length. Refuses data over 60 bytes (TooLong) and `out`
 // shorter than the image (NoRoom), in this order; a refusal leaves `out` as it was.

@@ -2,7 +2,7 @@
 use libc::STDERR_FILENO;
 use libc::STDIN_FILENO;
 use libc::STDOUT_FILENO;
-use tape::ends::write_header;
+use lines::ends::write_header;
 use tape::ends::write_last;
 use tape::tape::Tape;
 ghost use Prim.Native.Nat.{_≤_};

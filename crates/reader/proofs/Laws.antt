@@ -1,16 +1,10 @@
 -- The laws, each file with the noun that it speaks of.
 pub mod Choice
-pub mod Lists
 pub mod Copying
 pub mod Parameters
-pub mod Acceptance
-pub mod Header
 pub mod Replies
-pub mod Requesting
 pub mod Answering
 pub mod Sending
-pub mod Reading
-pub mod Mastering
 pub mod Executing
 pub mod Agreeing
 pub mod Sessions
@@ -18,7 +12,5 @@ pub mod Idle
 pub mod Repeats
 pub mod Some
 pub mod Values
-pub mod Requests
-pub mod Exchange
 pub mod Unique
 pub mod Examples

@@ -6,33 +6,36 @@ use mathlib.Core.Bool.{Bool, true, false, cond, _&&_, _||_, not}
 use mathlib.Core.List.{List}
 use lib.Dec.{ltb, leb}
 use lib.ListN.{length, getD, drop}
-use Rattle.link.specs.declared.refusal.Refusal.{Refusal}
-use Rattle.link.specs.declared.refusal.Refusal.the-variants.{NoRoom, TooLong, BadState, BadRequest}
-use Rattle.link.specs.Refusals.{number}
-use Rattle.link.specs.Events.{Name}
+use Rattle.ground.specs.declared.refusal.Refusal.{Refusal}
+use Rattle.ground.specs.declared.refusal.Refusal.the-variants.{NoRoom, TooLong, BadState, BadRequest}
+use Rattle.ground.specs.Refusals.{number}
+use Rattle.station.specs.Events.{Name}
+use Rattle.request.specs.declared.command.Command.{Command}
+use Rattle.request.specs.declared.command.Acceptance.{Acceptance}
+use Rattle.request.specs.declared.command.Acceptance.the-variants.{Accepted, Refused}
+use Rattle.request.specs.Limits.{mostAntenna}
+use Rattle.request.specs.Parameters.{isSpeed}
+use Rattle.request.specs.Acceptance.{acceptance, nackOf}
+use Rattle.request.specs.Replies.{NACK, sign}
 use Rattle.reader.specs.declared.asking.Asking.{Asking}
 use Rattle.reader.specs.declared.asking.Asking.the-variants.{Nothing, Wrong, Right}
 use Rattle.reader.specs.declared.buffer.Buffer.{Buffer}
 use Rattle.reader.specs.declared.buffer.Buffer.the-variants.{Out, Store}
-use Rattle.reader.specs.declared.command.Command.{Command}
-use Rattle.reader.specs.declared.command.Acceptance.{Acceptance}
-use Rattle.reader.specs.declared.command.Acceptance.the-variants.{Accepted, Refused}
 use Rattle.reader.specs.declared.memory.Memory.{Memory}
 use Rattle.reader.specs.declared.memory.Memory.the-variants.{None, Last}
 use Rattle.reader.specs.declared.memory.Repeat.{Repeat}
 use Rattle.reader.specs.declared.memory.Repeat.the-variants.{New, Stored}
-use Rattle.reader.specs.declared.parameter.Parameters.{Parameters}
+use Rattle.reader.specs.declared.parameters.Parameters.{Parameters}
 use Rattle.reader.specs.declared.reader.Reader.{Reader}
 use Rattle.reader.specs.declared.reader.Powered.{Powered}
 use Rattle.reader.specs.declared.reader.Answer.{Answer}
-use Rattle.reader.specs.Limits.{room, mostAntenna, leastFront, mostFront}
+use Rattle.reader.specs.Limits.{room, leastFront, mostFront}
 use Rattle.reader.specs.Copying.{onto}
 use Rattle.reader.specs.Parameters as parameters
-use Rattle.reader.specs.Parameters.{isSpeed, valueOf}
-use Rattle.reader.specs.Acceptance.{acceptance, nackOf, doneTo}
+use Rattle.reader.specs.Parameters.{valueOf, doneTo}
 use Rattle.reader.specs.Asking.{asking}
 use Rattle.reader.specs.Memory.{find, tooFar}
-use Rattle.reader.specs.Replies.{NACK, sign, wire, replyTo}
+use Rattle.reader.specs.Replies.{wire, replyTo}
 
 abbrev pub being : Parameters → Memory → Reader
 being ps memory = record { parameters = ps; memory = memory }

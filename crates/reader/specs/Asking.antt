@@ -1,5 +1,5 @@
 -- What an event asks of a reader. 01, The point reader, steps 1 to 3. Assumes nothing.
-use Rattle.link.specs.Events.{Name, NONE, FRAME, CHECK, SHORT, LONG, PAIR, ADDR}
+use Rattle.station.specs.Events.{Name, NONE, FRAME, CHECK, SHORT, LONG, PAIR, ADDR}
 use Rattle.reader.specs.declared.asking.Asking.{Asking}
 use Rattle.reader.specs.declared.asking.Asking.the-variants.{Nothing, Wrong, Right}
 

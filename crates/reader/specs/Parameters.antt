@@ -1,50 +1,13 @@
--- The reader's three parameters.
+-- The values of the three parameters in a reader's record.
 -- 01, The point reader, 'State' and the table; 003, 'Параметры считывателя'. Assumes nothing.
 use Prim.Native.Nat.{ℕ}
-use mathlib.Core.Bool.{Bool, true, cond, _&&_}
 use mathlib.Core.List.{List, [], _∷_}
-use lib.Dec.{eqb, leb}
-use lib.ListN.{length, getD, replicate}
-use Rattle.reader.specs.declared.parameter.Parameter.{Parameter}
-use Rattle.reader.specs.declared.parameter.Parameter.the-variants.{Speed, Settings, Cell}
-use Rattle.reader.specs.declared.parameter.Parameters.{Parameters}
-use Rattle.reader.specs.declared.parameter.Coded.{Coded}
-use Rattle.reader.specs.declared.parameter.Coded.the-variants.{Known, Unknown}
-
--- 02 interface speed, 05, 80
-abbrev pub parameterCode : Parameter → ℕ
-parameterCode Speed = 0x02
-parameterCode Settings = 0x05
-parameterCode Cell = 0x80
-
--- 1 byte, 4 bytes, 8 bytes
-abbrev pub lengthOf : Parameter → ℕ
-lengthOf Speed = 1
-lengthOf Settings = 4
-lengthOf Cell = 8
-
--- the parameter that a code names, if there is one
-unfoldable pub parameterWith : ℕ → Coded
-parameterWith code =
-    cond (eqb code (parameterCode Speed)) (Known Speed)
-    (cond (eqb code (parameterCode Settings)) (Known Settings)
-    (cond (eqb code (parameterCode Cell)) (Known Cell) Unknown))
-
--- interface speed, values 3..10
-abbrev pub isSpeed : ℕ → Bool
-isSpeed v = leb 3 v && leb v 10
-
--- for 02 a value 3..10; for the others any
-abbrev pub within : Parameter → List ℕ → Bool
-within Speed value = isSpeed (getD value 0 0)
-within Settings value = true
-within Cell value = true
-
--- a value of exactly its length; for 02 a value 3..10
-unfoldable pub takes : Parameter → List ℕ → Bool
-takes p value = eqb (length value) (lengthOf p) && within p value
-
--- ---- their values in a record
+use lib.ListN.{getD, replicate, drop}
+use Rattle.request.specs.declared.parameter.Parameter.{Parameter}
+use Rattle.request.specs.declared.parameter.Parameter.the-variants.{Speed, Settings, Cell}
+use Rattle.request.specs.declared.command.Command.{Command}
+use Rattle.request.specs.declared.command.Command.the-variants.{Header, Write, Read, Card}
+use Rattle.reader.specs.declared.parameters.Parameters.{Parameters}
 
 -- a fresh reader has speed 3, zeros in the others
 abbrev pub fresh : Parameters
@@ -61,3 +24,10 @@ abbrev pub withValue : Parameters → Parameter → List ℕ → Parameters
 withValue ps Speed value = record { speed = getD value 0 0; settings = ps .settings; cell = ps .cell }
 withValue ps Settings value = record { speed = ps .speed; settings = value; cell = ps .cell }
 withValue ps Cell value = record { speed = ps .speed; settings = ps .settings; cell = value }
+
+-- what a command does to the parameters: a write, whose data is the parameter's code and then its value, writes
+abbrev pub doneTo : Parameters → Command → List ℕ → Parameters
+doneTo ps Header «data» = ps
+doneTo ps (Write p) «data» = withValue ps p (drop 1 «data»)
+doneTo ps (Read p) «data» = ps
+doneTo ps (Card card) «data» = ps

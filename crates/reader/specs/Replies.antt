@@ -3,44 +3,20 @@
 use Prim.Native.Nat.{ℕ, _≤_}
 use mathlib.Core.Path.{_≡_}
 use mathlib.Core.Bool.{cond}
-use mathlib.Core.List.{List, [], _∷_}
+use mathlib.Core.List.{List}
 use lib.ListN.{length}
-use Rattle.link.specs.Image.{image}
+use Rattle.ground.specs.Refusals.{counted}
+use Rattle.wire.specs.Image.{image}
+use Rattle.wire.specs.Writing.{leaving, putting}
 use Rattle.link.specs.Frame.{pointContent}
-use Rattle.link.specs.Refusals.{counted}
-use Rattle.link.specs.Writing.{leaving, putting}
-use Rattle.reader.specs.declared.parameter.Parameter.{Parameter}
-use Rattle.reader.specs.declared.command.Command.{Command}
-use Rattle.reader.specs.declared.command.Command.the-variants.{Header, Write, Read, Card}
+use Rattle.request.specs.declared.parameter.Parameter.{Parameter}
+use Rattle.request.specs.declared.command.Command.{Command}
+use Rattle.request.specs.declared.command.Command.the-variants.{Header, Write, Read, Card}
+use Rattle.request.specs.Cards.{isCode}
+use Rattle.request.specs.Replies.{Reply, ACK, NACK, DATA, commandIn, dataIn}
 use Rattle.reader.specs.Limits.{room}
-use Rattle.reader.specs.Cards.{isCode}
 
--- ACK, NACK with its number, or data
-pub data Reply : Type 0 where
-  ACK : Reply
-  NACK : ℕ → Reply
-  DATA : List ℕ → Reply
-
--- ACK and NACK frames carry 2A in place of the command
-abbrev pub sign : ℕ
-sign = 0x2A
-
-abbrev pub commandIn : ℕ → Reply → ℕ
-commandIn code ACK = sign
-commandIn code (NACK n) = sign
-commandIn code (DATA bytes) = code
-
--- and one byte: 55 for ACK, else the NACK number
-abbrev pub dataIn : Reply → List ℕ
-dataIn ACK = 0x55 ∷ []
-dataIn (NACK n) = n ∷ []
-dataIn (DATA bytes) = bytes
-
--- the content without check of the reply to a request with this identifier and code
-abbrev pub frontOf : ℕ → ℕ → Reply → List ℕ
-frontOf identifier code reply = identifier ∷ commandIn code reply ∷ dataIn reply
-
--- with its check, and its frame's whole image
+-- a reply's content with its check, and its frame's whole image
 abbrev pub replyContent : ℕ → ℕ → Reply → List ℕ
 replyContent identifier code reply = pointContent identifier (commandIn code reply) (dataIn reply)
 

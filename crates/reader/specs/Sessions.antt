@@ -8,25 +8,26 @@ use mathlib.Core.List.{List, [], _∷_}
 use mathlib.Core.Option.{Option, none, some, Option·map}
 use lib.Dec.{eqb}
 use lib.ListN.{length, getD, drop}
-use Rattle.link.specs.declared.event.Event.{Event}
-use Rattle.link.specs.Refusals.{number}
-use Rattle.link.specs.Events.{named}
+use Rattle.ground.specs.Refusals.{number}
+use Rattle.station.specs.declared.event.Event.{Event}
+use Rattle.station.specs.Events.{named}
+use Rattle.request.specs.declared.parameter.Parameter.{Parameter}
+use Rattle.request.specs.declared.parameter.Parameter.the-variants.{Speed, Settings, Cell}
+use Rattle.request.specs.declared.command.Command.{Command}
+use Rattle.request.specs.declared.command.Command.the-variants.{Header, Write, Read, Card}
+use Rattle.request.specs.declared.command.Acceptance.{Acceptance}
+use Rattle.request.specs.declared.command.Acceptance.the-variants.{Accepted, Refused}
+use Rattle.request.specs.Limits.{headerLength}
+use Rattle.request.specs.Parameters.{parameterCode}
+use Rattle.request.specs.Acceptance.{acceptance, nackOf, isAccepted}
+use Rattle.request.specs.Replies.{Reply, NACK}
 use Rattle.reader.specs.declared.asking.Asking.{Asking}
 use Rattle.reader.specs.declared.asking.Asking.the-variants.{Nothing, Wrong, Right}
-use Rattle.reader.specs.declared.parameter.Parameter.{Parameter}
-use Rattle.reader.specs.declared.parameter.Parameter.the-variants.{Speed, Settings, Cell}
-use Rattle.reader.specs.declared.command.Command.{Command}
-use Rattle.reader.specs.declared.command.Command.the-variants.{Header, Write, Read, Card}
-use Rattle.reader.specs.declared.command.Acceptance.{Acceptance}
-use Rattle.reader.specs.declared.command.Acceptance.the-variants.{Accepted, Refused}
 use Rattle.reader.specs.declared.reader.Reader.{Reader}
 use Rattle.reader.specs.declared.reader.Powered.{Powered}
 use Rattle.reader.specs.declared.reader.Answer.{Answer}
-use Rattle.reader.specs.Limits.{headerLength}
-use Rattle.reader.specs.Parameters.{parameterCode}
-use Rattle.reader.specs.Acceptance.{acceptance, nackOf, isAccepted}
 use Rattle.reader.specs.Asking.{asking}
-use Rattle.reader.specs.Replies.{Reply, NACK, wire, replyTo}
+use Rattle.reader.specs.Replies.{wire, replyTo}
 use Rattle.reader.specs.Answering.{fresh, powering, poweredOn, answering, answered}
 
 -- ---- what the calls so far tell

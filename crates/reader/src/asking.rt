@@ -1,7 +1,7 @@
 // What an event asks of a reader.
-use link::event::Event;
+use station::event::Event;
 ghost use mathlib.Core.Path.{_≡_};
-ghost use Rattle.link.specs.Events.{named};
+ghost use Rattle.station.specs.Events.{named};
 ghost use Rattle.reader.specs.Asking.{asking};
 
 // Nothing that it answers, a frame whose check is wrong, or a frame whose check is right.

@@ -1,12 +1,9 @@
 // What a reader's call wants to be lent, and what it takes.
 use link::limits::MOST_DATA;
-use link::limits::MOST_IMAGE;
+use wire::limits::MOST_IMAGE;
 
 // The store and the out buffer each hold the image of any frame.
 pub const ROOM: usize = MOST_IMAGE;
-
-// The most bytes of an antenna's answer.
-pub const MOST_ANTENNA: usize = 8;
 
 // A content without its check of two bytes; it has an identifier and a command at least.
 pub const LEAST_FRONT: usize = 2;

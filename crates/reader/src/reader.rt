@@ -2,30 +2,30 @@
 use crate::asking::Asking;
 use crate::asking::asked_by;
 use crate::buffer::Buffer;
-use crate::command::Acceptance;
-use crate::command::Command;
-use crate::command::accept;
-use crate::command::nack_of;
-use crate::copying::copy;
-use crate::header::HEADER_LENGTH;
 use crate::limits::LEAST_FRONT;
-use crate::limits::MOST_ANTENNA;
 use crate::limits::MOST_FRONT;
 use crate::limits::ROOM;
 use crate::memory::Memory;
 use crate::memory::Repeat;
-use crate::parameter::Parameters;
-use crate::parameter::is_speed;
+use crate::parameters::Parameters;
 use crate::reply::WRONG_CHECK;
 use crate::reply::write_nack;
 use crate::reply::write_reply;
-use link::event::Event;
-use link::refusal::Refusal;
+use ground::laying::put;
+use ground::refusal::Refusal;
+use request::command::Acceptance;
+use request::command::Command;
+use request::command::accept;
+use request::command::nack_of;
+use request::header::HEADER_LENGTH;
+use request::limits::MOST_ANTENNA;
+use request::parameter::is_speed;
+use station::event::Event;
 ghost use mathlib.Core.Path.{_≡_};
 ghost use mathlib.Core.Bool.{true};
-ghost use Rattle.link.specs.Events.{named};
+ghost use Rattle.station.specs.Events.{named};
+ghost use Rattle.request.specs.Acceptance.{Carries};
 ghost use Rattle.reader.specs.Asking.{asking as askingOf};
-ghost use Rattle.reader.specs.Acceptance.{Carries};
 ghost use Rattle.reader.specs.Answering.{fresh as freshOf, badState, powering, poweredOn, isFront, answering, answerOf, Lent, executed as executedOf, framed, heeded, answered};
 
 // A reader between two calls: its three parameters, and the memory of the last executed command.
@@ -200,8 +200,8 @@ impl Reader {
     {
         let parameters = self.parameters;
         let length = write_reply(parameters, identifier, code, command, header, antenna, out);
-        copy(&out[..length], store);
-        let parameters = command.done_to(parameters, data);
+        put(&out[..length], store, 0);
+        let parameters = parameters.behind(command, data);
         let memory = Memory::Last {
             identifier,
             command: code,

@@ -1,22 +1,21 @@
 // The replies, and their frames.
-use crate::card::is_code;
-use crate::command::Command;
-use crate::header::HEADER_LENGTH;
-use crate::parameter::Parameter;
-use crate::parameter::Parameters;
+use crate::parameters::Parameters;
 use link::writer::write_point;
+use request::card::is_code;
+use request::command::Command;
+use request::header::HEADER_LENGTH;
+use request::parameter::Parameter;
+use request::sign::ACK;
+use request::sign::SIGN;
 ghost use Prim.Native.Nat.{_≤_};
 ghost use lib.ListN.{length};
 ghost use Rattle.link.specs.Limits.{mostData};
 ghost use Rattle.link.specs.Frame.{pointContent};
-ghost use Rattle.reader.specs.Limits.{room, mostAntenna};
+ghost use Rattle.request.specs.Limits.{mostAntenna};
+ghost use Rattle.request.specs.Replies.{NACK, DATA, sign};
+ghost use Rattle.reader.specs.Limits.{room};
 ghost use Rattle.reader.specs.Parameters.{valueOf};
-ghost use Rattle.reader.specs.Replies.{NACK, DATA, sign, replyContent, replyTo, Puts};
-
-// In place of a command it marks an ACK or a NACK, whose one byte of data is 55 or the NACK's number.
-pub(crate) const SIGN: u8 = 0x2A;
-
-pub(crate) const ACK: u8 = 0x55;
+ghost use Rattle.reader.specs.Replies.{replyContent, replyTo, Puts};
 
 // The NACKs to a wrong check, and for no card.
 pub(crate) const WRONG_CHECK: u8 = 1;

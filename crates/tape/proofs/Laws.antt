@@ -1,5 +1,4 @@
 -- The laws, each file with the noun that it speaks of.
-pub mod Lines
 pub mod Running
 pub mod Hearing
 pub mod Going

@@ -5,7 +5,9 @@ use Prim.Native.String.{String}
 use mathlib.Core.Path.{_≡_}
 use mathlib.Core.List.{List, [], _∷_}
 use Rattle.text.specs.Ascii.{ascii}
-use Rattle.tape.specs.Lines.{Ending, END, FULL, lastLine}
+use Rattle.lines.specs.declared.ends.Ending.{Ending}
+use Rattle.lines.specs.declared.ends.Ending.the-variants.{End as END, Full as FULL}
+use Rattle.lines.specs.Lines.{lastLine}
 use Rattle.tape.specs.Whole.{parts, listing}
 
 pub data Example : Type 0 where

@@ -4,10 +4,10 @@ use Prim.Native.Nat.{ℕ, _+_, _≤_}
 use mathlib.Core.Path.{_≡_}
 use mathlib.Core.List.{List, [], _∷_, _++_, List·Memᴰ}
 use lib.ListN.{length}
-use Rattle.link.specs.Events.{FRAME}
+use Rattle.station.specs.Events.{FRAME}
 use Rattle.link.specs.Listing.{Stands}
-use Rattle.tape.specs.declared.side.Side.{Side}
-use Rattle.tape.specs.declared.side.Side.the-variants.{Point, Addressed}
+use Rattle.lines.specs.declared.side.Side.{Side}
+use Rattle.lines.specs.declared.side.Side.the-variants.{Point, Addressed}
 use Rattle.tape.specs.Whole.{Record, heard, Entry, entry, lineOn}
 
 -- ---- what was heard on a line

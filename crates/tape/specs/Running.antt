@@ -5,13 +5,14 @@ use mathlib.Core.Bool.{cond}
 use mathlib.Core.List.{List, [], _∷_, _++_}
 use lib.Dec.{ltb}
 use lib.ListN.{length, take}
+use Rattle.ground.specs.Laying.{laid}
 use Rattle.link.specs.declared.receiver.Receiver.{Receiver}
-use Rattle.link.specs.Laying.{laid}
 use Rattle.link.specs.Receiving.{received}
-use Rattle.tape.specs.declared.side.Side.{Side}
+use Rattle.lines.specs.declared.side.Side.{Side}
+use Rattle.lines.specs.Limits.{leastRoom}
+use Rattle.lines.specs.Lines.{brought}
 use Rattle.tape.specs.declared.run.Ran.{Ran}
-use Rattle.tape.specs.Limits.{mostRecords, leastRoom}
-use Rattle.tape.specs.Lines.{brought}
+use Rattle.tape.specs.Limits.{mostRecords}
 use Rattle.tape.specs.Whole.{kindOf}
 
 -- not more than either of two numbers, and not zero unless one of them is

@@ -6,11 +6,11 @@ use mathlib.Core.Logic.{_⊎_}
 use mathlib.Core.Bool.{true}
 use mathlib.Core.List.{List, _++_}
 use lib.ListN.{length, take, drop}
-use Rattle.link.specs.declared.laying.Placed.{Placed}
-use Rattle.link.specs.Laying.{ended, put}
+use Rattle.ground.specs.declared.laying.Placed.{Placed}
+use Rattle.ground.specs.Laying.{ended, put}
+use Rattle.lines.specs.Lines.{headerLine}
 use Rattle.tape.specs.declared.tape.Tape.{Tape}
 use Rattle.tape.specs.declared.tape.Listed.{Listed}
-use Rattle.tape.specs.Lines.{headerLine}
 use Rattle.tape.specs.Taping.{isOver, told, listed, lastOf, freshTape}
 
 -- a line written by a call that was not refused: by its statement, to a buffer that held any bytes before

@@ -5,20 +5,23 @@ use mathlib.Core.Bool.{Bool, true, false, cond, _&&_, _||_}
 use mathlib.Core.List.{List, [], _∷_, _++_}
 use lib.Dec.{ltb, eqb}
 use lib.ListN.{length}
-use Rattle.link.specs.declared.refusal.Refusal.{Refusal}
-use Rattle.link.specs.declared.refusal.Refusal.the-variants.{NoRoom, BadState}
-use Rattle.link.specs.Refusals.{number}
-use Rattle.link.specs.Laying.{laid}
+use Rattle.ground.specs.declared.refusal.Refusal.{Refusal}
+use Rattle.ground.specs.declared.refusal.Refusal.the-variants.{NoRoom, BadState}
+use Rattle.ground.specs.Refusals.{number}
+use Rattle.ground.specs.Laying.{laid}
 use Rattle.link.specs.Receiving.{badState, received}
+use Rattle.lines.specs.declared.ends.Ending.{Ending}
+use Rattle.lines.specs.declared.ends.Ending.the-variants.{End as END, Cut as CUT, Bad as BAD, Full as FULL}
+use Rattle.lines.specs.Limits.{leastRoom}
+use Rattle.lines.specs.Lines.{brought, lastLine}
 use Rattle.tape.specs.declared.next.Next.{Next}
 use Rattle.tape.specs.declared.next.Next.the-variants.{Kind, Body, Bad, Full}
 use Rattle.tape.specs.declared.receivers.Receivers.{Receivers}
 use Rattle.tape.specs.declared.tape.Tape.{Tape}
 use Rattle.tape.specs.declared.tape.Listed.{Listed}
-use Rattle.tape.specs.Limits.{mostRecords, leastRoom}
-use Rattle.tape.specs.Lines.{brought, Ending, END, CUT, BAD, FULL, lastLine}
-use Rattle.tape.specs.Whole as whole
+use Rattle.tape.specs.Limits.{mostRecords}
 use Rattle.tape.specs.Whole.{known, unknown, kind, freshReceivers, on, turned}
+use Rattle.tape.specs.Whole as whole
 
 abbrev pub being : ℕ → Next → Receivers → Tape
 being records next receivers = record { records = records; next = next; receivers = receivers }

@@ -4,16 +4,18 @@ use mathlib.Core.Bool.{cond}
 use mathlib.Core.List.{List, [], _∷_, _++_}
 use lib.Dec.{eqb}
 use lib.ListN.{length, take}
-use Rattle.link.specs.declared.line.Line.{Line}
-use Rattle.link.specs.declared.line.Line.the-variants as lines
+use Rattle.station.specs.declared.line.Line.{Line}
+use Rattle.station.specs.declared.line.Line.the-variants as lines
+use Rattle.station.specs.Events.{Name, happened}
 use Rattle.link.specs.declared.receiver.Receiver.{Receiver}
-use Rattle.link.specs.Events.{Name, happened}
 use Rattle.link.specs.Receiving.{fresh, Said, received}
-use Rattle.tape.specs.declared.side.Side.{Side}
-use Rattle.tape.specs.declared.side.Side.the-variants.{Point, Addressed}
+use Rattle.lines.specs.declared.side.Side.{Side}
+use Rattle.lines.specs.declared.side.Side.the-variants.{Point, Addressed}
+use Rattle.lines.specs.declared.ends.Ending.{Ending}
+use Rattle.lines.specs.declared.ends.Ending.the-variants.{End as END, Cut as CUT, Bad as BAD, Full as FULL}
+use Rattle.lines.specs.Lines.{headerLine, eventLine, lastLine}
 use Rattle.tape.specs.declared.receivers.Receivers.{Receivers}
 use Rattle.tape.specs.Limits.{mostRecords}
-use Rattle.tape.specs.Lines.{headerLine, eventLine, Ending, END, CUT, BAD, FULL, lastLine}
 
 -- ---- records
 

@@ -1,6 +1,6 @@
 // What the next byte of a tape is.
 use crate::limits::MOST_RECORDS;
-use crate::side::Side;
+use lines::side::Side;
 ghost use mathlib.Core.Path.{_≡_};
 ghost use Rattle.tape.specs.Taping.{behindKind};
 

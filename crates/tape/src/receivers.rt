@@ -1,11 +1,11 @@
 // The receivers of both lines of a tape.
-use crate::side::Side;
-use link::line::MASTER;
+use ground::refusal::number;
+use lines::side::Side;
 use link::receiver::Receiver;
-use link::refusal::number;
+use station::line::MASTER;
 ghost use mathlib.Core.Path.{_≡_};
-ghost use Rattle.tape.specs.Whole.{freshReceivers, on as onSide, turned as turnedOn};
 ghost use Rattle.link.specs.Receiving.{badState};
+ghost use Rattle.tape.specs.Whole.{freshReceivers, on as onSide, turned as turnedOn};
 ghost use Rattle.tape.specs.Taping.{badReceivers};
 
 pub struct Receivers {

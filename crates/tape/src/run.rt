@@ -1,10 +1,9 @@
 // Records in a row on one line, heard together.
-use crate::event_line::put_heard;
-use crate::limits::LEAST_ROOM;
 use crate::limits::MOST_RECORDS;
-use crate::side::Side;
-use crate::side::kind_of;
-use link::laying::room;
+use ground::laying::room;
+use lines::event_line::put_heard;
+use lines::limits::LEAST_ROOM;
+use lines::side::Side;
 use link::receiver::Receiver;
 ghost use mathlib.Core.Path.{_≡_};
 ghost use mathlib.Core.Bool.{false};
@@ -12,6 +11,7 @@ ghost use Prim.Native.Nat.{_+_, _-_, _≤_, _<_};
 ghost use lib.ListN.{length, take};
 ghost use Rattle.link.specs.Receiving.{badState};
 ghost use Rattle.tape.specs.Limits.{mostRecords};
+ghost use Rattle.tape.specs.Whole.{kindOf};
 ghost use Rattle.tape.specs.Running.{Least, Gathered, left, leaving, running, Heard as HeardOf};
 
 // The receiver behind the records that were heard, their count, and where their lines end.
@@ -42,6 +42,16 @@ pub(crate) fn run(
     let most = least((MOST_RECORDS - records) as usize, piece.len());
     let count = gather(kind_of(side), most, chunk, piece);
     hear(side, receiver, records, &piece[..count], out, at)
+}
+
+// The kind of a side's records.
+fn kind_of(side: Side) -> u8
+    ensures { λ r. ⌜ r ≡ kindOf side ⌝ }
+{
+    match side {
+        Side::Point => 0x01,
+        Side::Addressed => 0x02,
+    }
 }
 
 // Gathers the bodies into `piece`, at most so many, and answers how many there are.

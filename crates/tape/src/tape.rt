@@ -1,18 +1,18 @@
 // A tape under way, and its listing.
-use crate::limits::LEAST_ROOM;
 use crate::limits::MOST_RECORDS;
 use crate::next::Next;
 use crate::next::behind_kind;
 use crate::receivers::Receivers;
 use crate::run::run;
-use link::laying::room;
-use link::refusal::Refusal;
+use ground::laying::room;
+use ground::refusal::Refusal;
+use lines::limits::LEAST_ROOM;
 ghost use mathlib.Core.Path.{_≡_};
 ghost use mathlib.Core.Bool.{false};
 ghost use mathlib.Core.List.{[]};
 ghost use Prim.Native.Nat.{_≤_};
 ghost use lib.ListN.{length};
-ghost use Rattle.tape.specs.Limits.{leastRoom};
+ghost use Rattle.lines.specs.Limits.{leastRoom};
 ghost use Rattle.tape.specs.Taping.{being, freshTape, isOver, badTape, told, refusing, listing, writing, going, listed};
 
 // A tape between two calls: the whole records so far, what the next byte is, and the receivers of both lines.

@@ -1,8 +1,8 @@
 // Whole numbers in decimal digits.
-use link::laying::Placed;
-use link::laying::put;
+use ground::laying::Placed;
+use ground::laying::put;
 ghost use mathlib.Core.Path.{_≡_};
-ghost use Rattle.link.specs.Laying.{ended, put as putOf};
+ghost use Rattle.ground.specs.Laying.{ended, put as putOf};
 ghost use Rattle.text.specs.Decimal.{decimal};
 
 // Digits that every 64-bit number has room in.

@@ -1,12 +1,12 @@
 // Bytes as upper-case hex pairs.
-use link::laying::Placed;
-use link::laying::put;
-use link::laying::room;
-use link::refusal::Refusal;
+use ground::laying::Placed;
+use ground::laying::put;
+use ground::laying::room;
+use ground::refusal::Refusal;
 ghost use mathlib.Core.Path.{_≡_};
 ghost use Prim.Native.Nat.{_+_, _*_, _≤_, _<_};
 ghost use lib.ListN.{length};
-ghost use Rattle.link.specs.Laying.{laid, ended, put as putOf};
+ghost use Rattle.ground.specs.Laying.{laid, ended, put as putOf};
 ghost use Rattle.text.specs.Hex.{digit as digitOf, pair, pairs};
 
 // Puts the bytes as hex pairs joined by dots, `-` for none, into `out` from the place `at` on. Refuses an `out` that ends before them

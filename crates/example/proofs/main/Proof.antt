@@ -8,14 +8,16 @@ use borrow.Author.Needs.{needs}
 use borrow.Author.Tests.{eq-eqb}
 use lib.ListN.{length, take, replicate}
 use lib.Seq.{length-take-le}
-use Rattle.link.specs.declared.line.Line.the-variants.{Point}
-use Rattle.link.specs.Stuffing.{stuffed, stuffing}
-use Rattle.link.specs.Image.{image}
-use Rattle.link.specs.Fcs.{shiftStep, shiftSteps, byteStep, run, residue, fcs, fcsBytes}
-use Rattle.link.specs.Frame.{checkOf, withCheck, front, came, alike, isRight, pointContent}
-use Rattle.link.specs.Writing.{After, imageWritten, written, pointWritten}
-use Rattle.link.specs.Turning.{kept, plain, contentByte, inside, within, turn}
-use Rattle.link.specs.Events.{verdict}
+use Rattle.checks.specs.Fcs.{shiftStep, shiftSteps, byteStep, run, residue, fcs, fcsBytes}
+use Rattle.checks.specs.Check.{checkOf, withCheck, front, came, alike, isRight}
+use Rattle.wire.specs.Stuffing.{stuffed, stuffing}
+use Rattle.wire.specs.Image.{image}
+use Rattle.wire.specs.Writing.{After, imageWritten}
+use Rattle.station.specs.declared.line.Line.the-variants.{Point}
+use Rattle.station.specs.Turning.{kept, plain, contentByte, inside, within, turn}
+use Rattle.station.specs.Events.{verdict}
+use Rattle.link.specs.Frame.{pointContent}
+use Rattle.link.specs.Writers.{written, pointWritten}
 use Rattle.link.specs.Receiving.{fresh, Said, saying, moved, outcome, heard, received}
 use Rattle.example.proofs.main.Statement.{statement}
 use Rattle.example.proofs.main.Tie as tie

@@ -5,8 +5,8 @@ use mathlib.Core.Path.{_≡_, refl, sym, ap, _∙_}
 use mathlib.Core.Bool.{Bool, true, false, cond, true≢false, false≢true}
 use mathlib.Core.List.{List, [], _∷_}
 use Prim.Native.Nat.{ℕ, _+_}
+use Rattle.station.specs.Events.{NONE, happened, silent}
 use Rattle.link.specs.declared.receiver.Receiver.{Receiver}
-use Rattle.link.specs.Events.{NONE, happened, silent}
 use Rattle.link.specs.Receiving.{Said, turnAt, moved, hasEvent, outcomeAt, answering, heard, badState, received}
 use Rattle.link.proofs.Laws.Receiving.{event-happens, stays-good}
 

@@ -10,21 +10,21 @@ use native.Mathlib.Omega.{arith}
 use lib.Dec.{lit≤}
 use lib.ListN.{length, length-append}
 use borrow.Author.Tests.{eqb-false}
-use Rattle.link.specs.declared.line.Line.{Line}
-use Rattle.link.specs.declared.line.Line.the-variants.{Point, Addressed}
-use Rattle.link.specs.declared.phase.Phase.the-variants.{Inside, Pending}
-use Rattle.link.specs.declared.turn.Turn.the-variants.{Wait, Keep, Stop}
-use Rattle.link.specs.Limits.{mostContent}
-use Rattle.link.specs.Stuffing.{special, stuffed, stuffing}
-use Rattle.link.specs.Image.{start, stop, image}
-use Rattle.link.specs.Line.{hasStation, Taken}
-use Rattle.link.specs.Turning.{inside, within, turn}
-use Rattle.link.specs.Rules.{Later, ByRule, address, waits, plain, pair}
+use Rattle.wire.specs.Limits.{mostContent}
+use Rattle.wire.specs.Stuffing.{special, stuffed, stuffing}
+use Rattle.wire.specs.Image.{start, stop, image}
+use Rattle.wire.proofs.Laws.Stuffing.{plain-ne, by-stuffed}
+use Rattle.station.specs.declared.line.Line.{Line}
+use Rattle.station.specs.declared.line.Line.the-variants.{Point, Addressed}
+use Rattle.station.specs.declared.phase.Phase.the-variants.{Inside, Pending}
+use Rattle.station.specs.declared.turn.Turn.the-variants.{Wait, Keep, Stop}
+use Rattle.station.specs.Line.{hasStation, Taken}
+use Rattle.station.specs.Turning.{inside, within, turn}
+use Rattle.station.specs.Rules.{Later, ByRule, address, waits, plain, pair}
+use Rattle.station.proofs.Laws.Address.{takes-plain}
+use Rattle.station.proofs.Laws.Turning.{rule-only}
 use Rattle.link.specs.Receiving.{outcome}
 use Rattle.link.specs.Hearing.{note}
-use Rattle.link.proofs.Laws.Address.{takes-plain}
-use Rattle.link.proofs.Laws.Stuffing.{plain-ne, by-stuffed}
-use Rattle.link.proofs.Laws.Turning.{rule-only}
 use Rattle.link.proofs.Laws.View.{View, view, nowhere, next, noted}
 use Rattle.link.proofs.Laws.Cuts.{tell}
 

@@ -8,10 +8,10 @@ use native.Mathlib.Nat.{add-zero}
 use native.Mathlib.Omega.{arith}
 use lib.ListN.{drop, drop-of-length-le}
 use lib.Seq.{drop-drop}
-use Rattle.link.specs.declared.line.Line.{Line}
+use Rattle.station.specs.declared.line.Line.{Line}
+use Rattle.station.specs.Line.{hasStation}
 use Rattle.link.specs.declared.receiver.Receiver.{Receiver}
 use Rattle.link.specs.declared.receiver.Heard.{Heard}
-use Rattle.link.specs.Line.{hasStation}
 use Rattle.link.specs.Receiving.{Said, saying, turnAt, moved, hasEvent, outcomeAt, answering, heard, received}
 use Rattle.link.specs.Hearing.{Told, note, tells, Hearing, over, call}
 use Rattle.link.proofs.Laws.Receiving.{heard-elim, hears-piece}

@@ -9,28 +9,28 @@ use native.Mathlib.Nat.{add-zero}
 use native.Mathlib.Omega.{arith}
 use lib.ListN.{length, take}
 use borrow.Author.Tests.{le-ltb}
-use Rattle.link.specs.declared.refusal.Refusal.the-variants.{BadAddress}
-use Rattle.link.specs.declared.frame.Check.{Check}
-use Rattle.link.specs.declared.event.Event.the-variants.{Frame}
-use Rattle.link.specs.declared.event.Verdict.{Verdict}
-use Rattle.link.specs.declared.line.Line.{Line}
-use Rattle.link.specs.declared.line.Line.the-variants.{Point, Addressed}
-use Rattle.link.specs.declared.phase.Phase.the-variants.{Inside}
-use Rattle.link.specs.declared.turn.Turn.the-variants.{Stop}
+use Rattle.ground.specs.declared.refusal.Refusal.the-variants.{BadAddress}
+use Rattle.ground.specs.Refusals.{number}
+use Rattle.ground.proofs.Laws.Choice.{cond-elim}
+use Rattle.checks.specs.declared.kind.Check.{Check}
+use Rattle.checks.specs.Check.{checkLength, withCheck, front}
+use Rattle.checks.proofs.Laws.Right.{front-withCheck, withCheck-right}
+use Rattle.station.specs.Limits.{leastContent}
+use Rattle.wire.specs.Image.{image}
+use Rattle.station.specs.declared.event.Event.the-variants.{Frame}
+use Rattle.station.specs.declared.event.Verdict.{Verdict}
+use Rattle.station.specs.declared.line.Line.{Line}
+use Rattle.station.specs.declared.line.Line.the-variants.{Point, Addressed}
+use Rattle.station.specs.declared.phase.Phase.the-variants.{Inside}
+use Rattle.station.specs.declared.turn.Turn.the-variants.{Stop}
+use Rattle.station.specs.Address.{isStation}
+use Rattle.station.specs.Line.{checkOn, checked, hasStation}
+use Rattle.station.specs.Events.{Name, FRAME, happened, named, telling}
+use Rattle.station.specs.Events.{verdict}
 use Rattle.link.specs.declared.receiver.Receiver.{Receiver}
-use Rattle.link.specs.Limits.{leastContent}
-use Rattle.link.specs.Address.{isStation}
-use Rattle.link.specs.Image.{image}
-use Rattle.link.specs.Frame.{checkLength, withCheck, front}
-use Rattle.link.specs.Line.{checkOn, checked, hasStation}
-use Rattle.link.specs.Refusals.{number}
-use Rattle.link.specs.Events.{Name, FRAME, happened, named, telling}
-use Rattle.link.specs.Events.{verdict}
 use Rattle.link.specs.Receiving.{fresh, Made, freshMade, outcome}
 use Rattle.link.specs.Hearing.{Told, toldAt, note, IsFresh, point, addressed, Hearing}
 use Rattle.link.specs.Listing.{Stands, Rise, Lists}
-use Rattle.link.proofs.Laws.Choice.{cond-elim}
-use Rattle.link.proofs.Laws.Right.{front-withCheck, withCheck-right}
 use Rattle.link.proofs.Laws.Fit.{Fit, fresh-fit}
 use Rattle.link.proofs.Laws.View.{View, view, nowhere, seen, turns, next, noted}
 use Rattle.link.proofs.Laws.Cuts.{tell, hearing-tells}

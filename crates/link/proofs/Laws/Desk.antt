@@ -9,29 +9,30 @@ use Prim.Native.Nat.{ℕ, zero, suc, _+_, _-_, _≤_, _<_, zero-le}
 use native.Mathlib.Omega.{arith}
 use lib.ListN.{length, take, length-append}
 use borrow.Author.Tests.{ltb-false}
-use Rattle.link.specs.declared.frame.Check.{Check}
-use Rattle.link.specs.declared.event.Event.{Event}
-use Rattle.link.specs.declared.event.Verdict.{Verdict}
-use Rattle.link.specs.declared.line.Line.{Line}
-use Rattle.link.specs.declared.line.Line.the-variants.{Point, Addressed}
-use Rattle.link.specs.declared.phase.Phase.{Phase}
-use Rattle.link.specs.declared.phase.Phase.the-variants.{Outside, Inside, Pending}
-use Rattle.link.specs.declared.turn.Turn.{Turn}
-use Rattle.link.specs.Limits.{leastContent, mostContent}
-use Rattle.link.specs.Stuffing.{special, stuffed, stuffing}
-use Rattle.link.specs.Image.{start, stop, image}
-use Rattle.link.specs.Frame.{checkLength, withCheck, front, isRight}
-use Rattle.link.specs.Line.{checkOn, checked, hasStation, Taken}
-use Rattle.link.specs.Events.{Name, NONE, FRAME, CHECK, SHORT, LONG, PAIR, ADDR, named, happened, telling, tooShort, verdict}
-use Rattle.link.specs.Rules.{Address, Later, ByRule, ignored, begins, stops, address, noAddress, waits, plain, pair, noPair, longPlain, longPair}
+use Rattle.ground.proofs.Laws.Choice.{cond-elim}
+use Rattle.checks.specs.declared.kind.Check.{Check}
+use Rattle.checks.specs.Check.{checkLength, withCheck, front, isRight}
+use Rattle.checks.proofs.Laws.Right.{right-withCheck}
+use Rattle.wire.specs.Limits.{mostContent}
+use Rattle.station.specs.Limits.{leastContent}
+use Rattle.wire.specs.Stuffing.{special, stuffed, stuffing}
+use Rattle.wire.specs.Image.{start, stop, image}
+use Rattle.wire.proofs.Laws.Stuffing.{stuffed-other, stuffed-special, stuffing-append}
+use Rattle.station.specs.declared.event.Event.{Event}
+use Rattle.station.specs.declared.event.Verdict.{Verdict}
+use Rattle.station.specs.declared.line.Line.{Line}
+use Rattle.station.specs.declared.line.Line.the-variants.{Point, Addressed}
+use Rattle.station.specs.declared.phase.Phase.{Phase}
+use Rattle.station.specs.declared.phase.Phase.the-variants.{Outside, Inside, Pending}
+use Rattle.station.specs.declared.turn.Turn.{Turn}
+use Rattle.station.specs.Line.{checkOn, checked, hasStation, Taken}
+use Rattle.station.specs.Events.{Name, NONE, FRAME, CHECK, SHORT, LONG, PAIR, ADDR, named, happened, telling, tooShort, verdict}
+use Rattle.station.specs.Rules.{Address, Later, ByRule, ignored, begins, stops, address, noAddress, waits, plain, pair, noPair, longPlain, longPair}
+use Rattle.station.proofs.Laws.Address.{takes-plain}
+use Rattle.station.proofs.Laws.Turning.{turn-rule, address-room}
 use Rattle.link.specs.Receiving.{outcome}
 use Rattle.link.specs.Hearing.{Told, toldAt, note}
 use Rattle.link.specs.Listing.{Stands}
-use Rattle.link.proofs.Laws.Choice.{cond-elim}
-use Rattle.link.proofs.Laws.Address.{takes-plain}
-use Rattle.link.proofs.Laws.Stuffing.{stuffed-other, stuffed-special, stuffing-append}
-use Rattle.link.proofs.Laws.Right.{right-withCheck}
-use Rattle.link.proofs.Laws.Turning.{turn-rule, address-room}
 use Rattle.link.proofs.Laws.View.{View, view, turns, next, noted}
 use Rattle.link.proofs.Laws.Cuts.{tell}
 

@@ -5,17 +5,17 @@ use mathlib.Core.List.{List}
 use Prim.Native.Nat.{ℕ, _≤_, zero-le}
 use native.Mathlib.Omega.{arith}
 use lib.ListN.{length, length-set, length-replicate}
-use Rattle.link.specs.declared.frame.Check.{Check}
-use Rattle.link.specs.declared.event.Verdict.{Verdict}
-use Rattle.link.specs.declared.line.Line.{Line}
-use Rattle.link.specs.declared.turn.Turn.{Turn}
-use Rattle.link.specs.declared.turn.Turn.the-variants.{Rest, Begin, Wait, Keep, Stop, Tell}
+use Rattle.ground.proofs.Laws.Choice.{cond-elim}
+use Rattle.checks.specs.declared.kind.Check.{Check}
+use Rattle.wire.specs.Limits.{mostContent}
+use Rattle.station.specs.declared.event.Verdict.{Verdict}
+use Rattle.station.specs.declared.line.Line.{Line}
+use Rattle.station.specs.declared.turn.Turn.{Turn}
+use Rattle.station.specs.declared.turn.Turn.the-variants.{Rest, Begin, Wait, Keep, Stop, Tell}
+use Rattle.station.specs.Events.{tooShort, verdict}
+use Rattle.station.proofs.Laws.Turning.{Room, turn-room}
 use Rattle.link.specs.declared.receiver.Receiver.{Receiver}
-use Rattle.link.specs.Limits.{mostContent}
-use Rattle.link.specs.Events.{tooShort, verdict}
 use Rattle.link.specs.Receiving.{fresh, turnAt, moved, outcome}
-use Rattle.link.proofs.Laws.Choice.{cond-elim}
-use Rattle.link.proofs.Laws.Turning.{Room, turn-room}
 
 -- ---- an event carries no more than was kept
 

@@ -8,20 +8,20 @@ use native.Mathlib.Decide.{decLe}
 use native.Mathlib.Omega.{arith}
 use lib.ListN.{length, take, drop, length-drop}
 use borrow.Author.Tests.{le-ltb}
-use Rattle.link.specs.declared.refusal.Refusal.the-variants as refusal
-use Rattle.link.specs.declared.event.Verdict.{Verdict}
-use Rattle.link.specs.declared.line.Line.{Line}
-use Rattle.link.specs.declared.line.Line.the-variants.{Point, Addressed}
+use Rattle.ground.specs.declared.refusal.Refusal.the-variants as refusal
+use Rattle.ground.specs.Refusals.{number}
+use Rattle.wire.specs.Limits.{mostContent}
+use Rattle.station.specs.declared.event.Verdict.{Verdict}
+use Rattle.station.specs.declared.line.Line.{Line}
+use Rattle.station.specs.declared.line.Line.the-variants.{Point, Addressed}
+use Rattle.station.specs.Address.{isBroadcast, isNever, isStation}
+use Rattle.station.specs.Line.{hasStation}
+use Rattle.station.specs.Events.{Name, happened, silent}
+use Rattle.station.proofs.Laws.Address.{station-kinds}
 use Rattle.link.specs.declared.receiver.Receiver.{Receiver}
 use Rattle.link.specs.declared.receiver.Heard.{Heard}
-use Rattle.link.specs.Limits.{mostContent}
-use Rattle.link.specs.Address.{isBroadcast, isNever, isStation}
-use Rattle.link.specs.Line.{hasStation}
-use Rattle.link.specs.Refusals.{number}
-use Rattle.link.specs.Events.{Name, happened, silent}
 use Rattle.link.specs.Receiving.{fresh, freshMade, Said, saying, turnAt, moved, outcomeAt, heard, badState, received}
 use Rattle.link.specs.Hearing.{Told, toldAt, note, tells, IsFresh, point, addressed, Hearing, over, call}
-use Rattle.link.proofs.Laws.Address.{station-kinds}
 use Rattle.link.proofs.Laws.Fit.{Fit}
 use Rattle.link.proofs.Laws.Receiving.{heard-elim, heard-takes, hears-piece, received-takes}
 use Rattle.link.proofs.Laws.Cuts.{call-tells}

@@ -8,24 +8,29 @@ use Prim.Native.Nat.{ℕ, _+_, _≤_}
 use native.Mathlib.Omega.{arith}
 use lib.ListN.{length, take, drop}
 use lib.Seq.{take-at}
-use Rattle.link.specs.declared.frame.Check.the-variants.{Fcs, Sum}
-use Rattle.link.specs.declared.line.Line.{Line}
-use Rattle.link.specs.declared.line.Line.the-variants.{Point, Addressed}
-use Rattle.link.specs.declared.refusal.Counted.{Counted}
+use Rattle.ground.specs.declared.refusal.Counted.{Counted}
+use Rattle.ground.specs.Refusals.{answered}
+use Rattle.checks.specs.declared.kind.Check.the-variants.{Fcs, Sum}
+use Rattle.checks.specs.Check.{withCheck}
+use Rattle.checks.proofs.Laws.Check.{length-withCheck}
+use Rattle.wire.specs.Limits.{mostContent}
+use Rattle.station.specs.Limits.{leastContent}
+use Rattle.link.specs.Limits.{mostData}
+use Rattle.wire.specs.Image.{image}
+use Rattle.wire.specs.Writing.{After, after}
+use Rattle.station.specs.declared.line.Line.{Line}
+use Rattle.station.specs.declared.line.Line.the-variants.{Point, Addressed}
+use Rattle.station.specs.Address.{isNever, takes}
+use Rattle.station.specs.Line.{checked, hasStation, Taken}
+use Rattle.station.specs.Events.{FRAME}
+use Rattle.station.proofs.Laws.Address.{takes-lt}
 use Rattle.link.specs.declared.receiver.Receiver.{Receiver}
-use Rattle.link.specs.Limits.{leastContent, mostContent, mostData}
-use Rattle.link.specs.Address.{isNever, takes}
-use Rattle.link.specs.Image.{image}
-use Rattle.link.specs.Frame.{withCheck, pointContent, addressedContent}
-use Rattle.link.specs.Line.{checked, hasStation, Taken}
-use Rattle.link.specs.Events.{FRAME}
-use Rattle.link.specs.Refusals.{answered}
-use Rattle.link.specs.Writing.{After, after, written, pointWritten, addressedWritten, ByTable, tooLong, badAddress, noRoom, frame}
+use Rattle.link.specs.Frame.{pointContent, addressedContent}
+use Rattle.link.specs.Writers.{written, pointWritten, addressedWritten, ByTable, tooLong, badAddress, noRoom, frame}
 use Rattle.link.specs.Hearing.{Told, toldAt, IsFresh, Hearing}
 use Rattle.link.specs.Listing.{Stands, Fields, onPoint, onAddressed, IsImage}
-use Rattle.link.proofs.Laws.Address.{takes-lt}
-use Rattle.link.proofs.Laws.Frame.{length-withCheck, length-point, length-addressed}
-use Rattle.link.proofs.Laws.Writing.{by-table, point-writes, addressed-writes}
+use Rattle.link.proofs.Laws.Frame.{length-point, length-addressed}
+use Rattle.link.proofs.Laws.Writers.{by-table, point-writes, addressed-writes}
 use Rattle.link.proofs.Laws.Demand.{fresh-begins, hearing-lists}
 
 -- ---- the crew's side

@@ -9,24 +9,24 @@ use native.Mathlib.Omega.{arith}
 use lib.Dec.{ltb}
 use lib.ListN.{length, drop, getD, length-take, drop-of-length-le}
 use borrow.Author.Tests.{lt-ltb, le-ltb, ltb-false}
-use Rattle.link.specs.declared.refusal.Refusal.the-variants.{BadState}
-use Rattle.link.specs.declared.frame.Check.{Check}
-use Rattle.link.specs.declared.event.Event.{Event}
-use Rattle.link.specs.declared.event.Verdict.{Verdict}
-use Rattle.link.specs.declared.line.Line.{Line}
-use Rattle.link.specs.declared.phase.Phase.{Phase}
-use Rattle.link.specs.declared.turn.Turn.{Turn}
+use Rattle.ground.specs.declared.refusal.Refusal.the-variants.{BadState}
+use Rattle.ground.specs.Refusals.{number}
+use Rattle.ground.proofs.Laws.Choice.{cond-elim, or-none}
+use Rattle.ground.proofs.Laws.Lists.{drop-next}
+use Rattle.checks.specs.declared.kind.Check.{Check}
+use Rattle.checks.specs.Check.{isRight}
+use Rattle.wire.specs.Limits.{mostContent}
+use Rattle.station.specs.declared.event.Event.{Event}
+use Rattle.station.specs.declared.event.Verdict.{Verdict}
+use Rattle.station.specs.declared.line.Line.{Line}
+use Rattle.station.specs.declared.phase.Phase.{Phase}
+use Rattle.station.specs.declared.turn.Turn.{Turn}
+use Rattle.station.specs.Line.{checkOn, hasStation}
+use Rattle.station.specs.Events.{NONE, named, happened, silent, tooShort, verdict}
+use Rattle.station.specs.Rules.{ByRule, ignored, begins, stops, address, noAddress, waits, plain, pair, noPair, longPlain, longPair}
+use Rattle.station.proofs.Laws.Turning.{Room, turn-rule}
 use Rattle.link.specs.declared.receiver.Receiver.{Receiver}
-use Rattle.link.specs.Limits.{mostContent}
-use Rattle.link.specs.Frame.{isRight}
-use Rattle.link.specs.Line.{checkOn, hasStation}
-use Rattle.link.specs.Refusals.{number}
-use Rattle.link.specs.Events.{NONE, named, happened, silent, tooShort, verdict}
-use Rattle.link.specs.Rules.{ByRule, ignored, begins, stops, address, noAddress, waits, plain, pair, noPair, longPlain, longPair}
 use Rattle.link.specs.Receiving.{soFar, turnAt, moved, hasEvent, outcome, outcomeAt, answering, heard, badState, refusedState, Said, received}
-use Rattle.link.proofs.Laws.Choice.{cond-elim, or-none}
-use Rattle.link.proofs.Laws.Lists.{drop-next}
-use Rattle.link.proofs.Laws.Turning.{Room, turn-rule}
 use Rattle.link.proofs.Laws.Fit.{outcome-length, line-moved, count-moved, room-at, Fit, fit-moved}
 
 -- ---- the piece byte by byte

@@ -9,19 +9,19 @@ use native.Mathlib.Numerals.{add-one}
 use native.Mathlib.Omega.{arith}
 use lib.ListN.{length, take}
 use lib.Seq.{length-take-le, take-take, take-suc-set}
-use Rattle.link.specs.declared.frame.Check.{Check}
-use Rattle.link.specs.declared.line.Line.{Line}
-use Rattle.link.specs.declared.phase.Phase.{Phase}
-use Rattle.link.specs.declared.phase.Phase.the-variants.{Outside, Inside, Pending}
-use Rattle.link.specs.declared.turn.Turn.{Turn}
-use Rattle.link.specs.declared.turn.Turn.the-variants.{Rest, Begin, Wait, Keep, Stop, Tell}
+use Rattle.checks.specs.declared.kind.Check.{Check}
+use Rattle.station.specs.declared.line.Line.{Line}
+use Rattle.station.specs.declared.phase.Phase.{Phase}
+use Rattle.station.specs.declared.phase.Phase.the-variants.{Outside, Inside, Pending}
+use Rattle.station.specs.declared.turn.Turn.{Turn}
+use Rattle.station.specs.declared.turn.Turn.the-variants.{Rest, Begin, Wait, Keep, Stop, Tell}
+use Rattle.station.specs.Line.{checkOn}
+use Rattle.station.specs.Events.{named, verdict}
+use Rattle.station.specs.Turning.{turn}
+use Rattle.station.proofs.Laws.Turning.{Room}
 use Rattle.link.specs.declared.receiver.Receiver.{Receiver}
-use Rattle.link.specs.Line.{checkOn}
-use Rattle.link.specs.Events.{named, verdict}
-use Rattle.link.specs.Turning.{turn}
 use Rattle.link.specs.Receiving.{soFar, turnAt, moved, hasEvent, outcome, outcomeAt}
 use Rattle.link.specs.Hearing.{Told, note}
-use Rattle.link.proofs.Laws.Turning.{Room}
 use Rattle.link.proofs.Laws.Fit.{outcome-length, Fit}
 
 pub record View : Type 0 where

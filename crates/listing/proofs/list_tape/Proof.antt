@@ -6,8 +6,8 @@ use native.Mathlib.Omega.{arith}
 use borrow.Author.Needs.{needs}
 use lib.ListN.{length}
 use lib.Seq.{length-take-le}
-use Rattle.link.specs.Laying.{Ended}
-use Rattle.link.proofs.Laws.Laying.{put-within}
+use Rattle.ground.specs.Laying.{Ended}
+use Rattle.ground.proofs.Laws.Laying.{put-within}
 use Rattle.tape.specs.declared.tape.Tape.{Tape}
 use Rattle.tape.specs.Limits.{mostRecords}
 use Rattle.tape.specs.Taping.{lastOf}

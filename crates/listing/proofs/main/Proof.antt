@@ -5,9 +5,9 @@ use Prim.Native.Nat.{zero-le}
 use native.Mathlib.Omega.{arith}
 use borrow.Author.Needs.{needs}
 use lib.Seq.{length-take-le}
-use Rattle.link.specs.Laying.{Ended}
-use Rattle.link.proofs.Laws.Laying.{put-within}
-use Rattle.tape.specs.Lines.{headerLine}
+use Rattle.ground.specs.Laying.{Ended}
+use Rattle.ground.proofs.Laws.Laying.{put-within}
+use Rattle.lines.specs.Lines.{headerLine}
 use Rattle.listing.proofs.main.Statement.{statement}
 use Rattle.listing.proofs.main.Tie as tie
 

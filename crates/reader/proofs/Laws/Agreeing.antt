@@ -11,29 +11,33 @@ use lib.ListN.{length, getD, take, drop}
 use lib.Seq.{take-at}
 use borrow.Author.Tests.{eqb-true, le-ltb}
 use Rattle.link.specs.Limits.{mostData}
+use Rattle.request.specs.declared.parameter.Parameter.{Parameter}
+use Rattle.request.specs.declared.parameter.Parameter.the-variants.{Speed, Settings, Cell}
+use Rattle.request.specs.declared.command.Command.{Command}
+use Rattle.request.specs.declared.command.Acceptance.{Acceptance}
+use Rattle.request.specs.declared.command.Acceptance.the-variants.{Accepted, Refused}
+use Rattle.request.specs.Limits.{headerLength}
+use Rattle.request.specs.Parameters.{lengthOf, isSpeed}
+use Rattle.request.specs.Acceptance.{acceptance, nackOf, Carries}
+use Rattle.request.specs.Replies.{NACK, sign, dataIn}
+use Rattle.request.proofs.Laws.Choice.{and-both}
+use Rattle.request.proofs.Laws.Acceptance.{accepts, carries}
 use Rattle.reader.specs.declared.asking.Asking.{Asking}
 use Rattle.reader.specs.declared.asking.Asking.the-variants.{Nothing, Wrong, Right}
-use Rattle.reader.specs.declared.parameter.Parameter.{Parameter}
-use Rattle.reader.specs.declared.parameter.Parameter.the-variants.{Speed, Settings, Cell}
 use Rattle.reader.specs.declared.buffer.Buffer.the-variants.{Out, Store}
-use Rattle.reader.specs.declared.command.Command.{Command}
-use Rattle.reader.specs.declared.command.Acceptance.{Acceptance}
-use Rattle.reader.specs.declared.command.Acceptance.the-variants.{Accepted, Refused}
 use Rattle.reader.specs.declared.memory.Memory.{Memory}
 use Rattle.reader.specs.declared.memory.Memory.the-variants.{None, Last}
 use Rattle.reader.specs.declared.memory.Repeat.the-variants.{New, Stored}
 use Rattle.reader.specs.declared.reader.Reader.{Reader}
-use Rattle.reader.specs.Limits.{room, headerLength}
+use Rattle.reader.specs.Limits.{room}
 use Rattle.reader.specs.Copying.{onto}
-use Rattle.reader.specs.Parameters.{lengthOf, isSpeed, valueOf}
-use Rattle.reader.specs.Acceptance.{acceptance, nackOf, Carries}
+use Rattle.reader.specs.Parameters.{valueOf}
 use Rattle.reader.specs.Memory.{find, tooFar}
-use Rattle.reader.specs.Replies.{NACK, sign, dataIn, wire, replyTo}
+use Rattle.reader.specs.Replies.{wire, replyTo}
 use Rattle.reader.specs.Answering.{being, fresh, badState, Answered, Lent, sending, nacked, executed, judged, recalled, framed, stepped}
 use Rattle.reader.specs.Sending.{sent}
 use Rattle.reader.specs.Sessions.{Executed, wireOf, History, begun, forgetting, repeats, judgedNext, next, judgedReply, bytesOf, toSend, isRepeat, Kept}
-use Rattle.reader.proofs.Laws.Choice.{by-test, and-both}
-use Rattle.reader.proofs.Laws.Acceptance.{accepts, carries}
+use Rattle.reader.proofs.Laws.Choice.{by-test}
 use Rattle.reader.proofs.Laws.Replies.{point-room}
 use Rattle.reader.proofs.Laws.Answering.{framed-by}
 use Rattle.reader.proofs.Laws.Sending.{sent-none, sent-out, sent-store}

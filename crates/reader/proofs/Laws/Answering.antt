@@ -8,31 +8,33 @@ use native.Mathlib.Omega.{arith}
 use lib.Dec.{ltb}
 use lib.ListN.{length, getD, take, drop, length-append}
 use borrow.Author.Tests.{ltb-true, ltb-false, leb-true, lt-ltb, le-ltb, le-leb}
-use Rattle.link.specs.declared.refusal.Refusal.the-variants.{None, NoRoom, TooLong, BadState, BadRequest}
+use Rattle.ground.specs.declared.refusal.Refusal.the-variants.{None, NoRoom, TooLong, BadState, BadRequest}
+use Rattle.ground.proofs.Laws.Choice.{cond-elim, or-none}
+use Rattle.wire.specs.Image.{image}
+use Rattle.wire.specs.Writing.{After}
+use Rattle.station.specs.Events.{Name}
 use Rattle.link.specs.Limits.{mostData}
-use Rattle.link.specs.Image.{image}
-use Rattle.link.specs.Writing.{After}
-use Rattle.link.specs.Events.{Name}
-use Rattle.link.proofs.Laws.Choice.{cond-elim, or-none}
+use Rattle.request.specs.declared.command.Command.{Command}
+use Rattle.request.specs.declared.command.Acceptance.{Acceptance}
+use Rattle.request.specs.Limits.{mostAntenna}
+use Rattle.request.specs.Acceptance.{acceptance}
+use Rattle.request.proofs.Laws.Choice.{and-both}
 use Rattle.reader.specs.declared.buffer.Buffer.the-variants.{Out}
-use Rattle.reader.specs.declared.command.Command.{Command}
-use Rattle.reader.specs.declared.command.Acceptance.{Acceptance}
 use Rattle.reader.specs.declared.memory.Memory.the-variants as Memory
 use Rattle.reader.specs.declared.memory.Memory.the-variants.{Last}
 use Rattle.reader.specs.declared.memory.Repeat.{Repeat}
 use Rattle.reader.specs.declared.memory.Repeat.the-variants.{New}
-use Rattle.reader.specs.declared.parameter.Parameters.{Parameters}
+use Rattle.reader.specs.declared.parameters.Parameters.{Parameters}
 use Rattle.reader.specs.declared.reader.Reader.{Reader}
 use Rattle.reader.specs.declared.reader.Answer.{Answer}
-use Rattle.reader.specs.Limits.{room, mostAntenna, leastFront, mostFront}
+use Rattle.reader.specs.Limits.{room, leastFront, mostFront}
 use Rattle.reader.specs.Copying.{onto}
-use Rattle.reader.specs.Parameters.{valueOf}
-use Rattle.reader.specs.Acceptance.{acceptance, doneTo}
+use Rattle.reader.specs.Parameters.{valueOf, doneTo}
 use Rattle.reader.specs.Asking.{asking}
 use Rattle.reader.specs.Memory.{find}
 use Rattle.reader.specs.Replies.{Puts, replyContent, replyTo}
 use Rattle.reader.specs.Answering.{being, badState, poweredOn, Answered, answering, answerOf, sending, refusing, executed, judged, recalled, framed, stepped, Lent, isFront, fits, heeded, answered, ByTable, state, noStore, noOut, tooLong, request, steps}
-use Rattle.reader.proofs.Laws.Choice.{by-test, and-both}
+use Rattle.reader.proofs.Laws.Choice.{by-test}
 use Rattle.reader.proofs.Laws.Replies.{puts-front}
 
 -- a frame put to out, and nothing else

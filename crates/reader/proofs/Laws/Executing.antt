@@ -7,20 +7,23 @@ use Prim.Native.Nat.{ℕ, _≤_}
 use native.Mathlib.Omega.{arith}
 use lib.Dec.{eqb}
 use lib.ListN.{length, drop}
+use Rattle.ground.proofs.Laws.Choice.{cond-elim}
 use Rattle.link.specs.Limits.{mostData}
-use Rattle.link.proofs.Laws.Choice.{cond-elim}
-use Rattle.reader.specs.declared.parameter.Parameter.{Parameter}
-use Rattle.reader.specs.declared.parameter.Parameter.the-variants.{Speed, Settings, Cell}
-use Rattle.reader.specs.declared.parameter.Parameters.{Parameters}
-use Rattle.reader.specs.declared.command.Command.{Command}
-use Rattle.reader.specs.declared.command.Command.the-variants as Command
-use Rattle.reader.specs.Limits.{mostAntenna, headerLength}
-use Rattle.reader.specs.Parameters.{parameterCode, lengthOf, isSpeed, valueOf}
-use Rattle.reader.specs.Cards.{isCode}
-use Rattle.reader.specs.Acceptance.{Carries, doneTo}
-use Rattle.reader.specs.Replies.{Reply, dataIn, replyTo}
+use Rattle.request.specs.declared.parameter.Parameter.{Parameter}
+use Rattle.request.specs.declared.parameter.Parameter.the-variants.{Speed, Settings, Cell}
+use Rattle.request.specs.declared.command.Command.{Command}
+use Rattle.request.specs.declared.command.Command.the-variants as Command
+use Rattle.request.specs.Limits.{mostAntenna, headerLength}
+use Rattle.request.specs.Parameters.{parameterCode, lengthOf, isSpeed}
+use Rattle.request.specs.Cards.{isCode}
+use Rattle.request.specs.Acceptance.{Carries}
+use Rattle.request.specs.Replies.{Reply, dataIn}
+use Rattle.request.proofs.Laws.Parameters.{takes-length, takes-within, lengthOf-most, same-code}
+use Rattle.reader.specs.declared.parameters.Parameters.{Parameters}
+use Rattle.reader.specs.Parameters.{valueOf, doneTo}
+use Rattle.reader.specs.Replies.{replyTo}
 use Rattle.reader.specs.Sessions.{valuesAfter}
-use Rattle.reader.proofs.Laws.Parameters.{takes-length, takes-within, lengthOf-most, same-code, value-written}
+use Rattle.reader.proofs.Laws.Parameters.{value-written}
 
 module _ (ps : Parameters) («data» : List ℕ) where
   pub done-values : (command : Command) → Carries command «data»

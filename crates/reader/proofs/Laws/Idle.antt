@@ -8,17 +8,17 @@ use lib.Dec.{eqb}
 use lib.ListN.{length, getD, drop}
 use borrow.Author.Tests.{eqb-true}
 use Prim.Native.Nat.{ℕ}
-use Rattle.link.specs.Refusals.{number}
-use Rattle.link.proofs.Laws.Choice.{cond-elim}
-use Rattle.link.specs.Events.{Name, named}
+use Rattle.ground.specs.Refusals.{number}
+use Rattle.ground.proofs.Laws.Choice.{cond-elim}
+use Rattle.station.specs.Events.{Name, named}
+use Rattle.request.specs.declared.command.Acceptance.{Acceptance}
+use Rattle.request.specs.declared.command.Acceptance.the-variants.{Accepted, Refused}
+use Rattle.request.specs.Limits.{headerLength}
+use Rattle.request.specs.Acceptance.{acceptance, isAccepted}
 use Rattle.reader.specs.declared.asking.Asking.{Asking}
 use Rattle.reader.specs.declared.asking.Asking.the-variants.{Nothing, Wrong, Right}
-use Rattle.reader.specs.declared.command.Acceptance.{Acceptance}
-use Rattle.reader.specs.declared.command.Acceptance.the-variants.{Accepted, Refused}
 use Rattle.reader.specs.declared.reader.Reader.{Reader}
-use Rattle.reader.specs.Limits.{headerLength}
 use Rattle.reader.specs.Asking.{asking}
-use Rattle.reader.specs.Acceptance.{acceptance, isAccepted}
 use Rattle.reader.specs.Answering.{Answered, judged, stepped, ByTable, state, noStore, noOut, tooLong, request, steps}
 use Rattle.reader.specs.Sessions.{Executed, History, repeats, judgedNext, next, executes, Kept, Session, made, powered, called, Idle, rests, heeds}
 use Rattle.reader.proofs.Laws.Choice.{by-test}

@@ -9,25 +9,25 @@ use Prim.Native.Nat.{ℕ, _≤_}
 use lib.Dec.{eqb}
 use lib.ListN.{length, take, drop}
 use lib.Seq.{take-at}
-use Rattle.link.specs.declared.event.Event.the-variants.{Frame}
+use Rattle.station.specs.declared.event.Event.the-variants.{Frame}
+use Rattle.station.specs.Events.{FRAME}
 use Rattle.link.specs.Limits.{mostData}
-use Rattle.link.specs.Events.{FRAME}
+use Rattle.request.specs.declared.command.Command.{Command}
+use Rattle.request.specs.declared.command.Acceptance.the-variants.{Accepted}
+use Rattle.request.specs.declared.parameter.Parameter.{Parameter}
+use Rattle.request.specs.Limits.{headerLength}
+use Rattle.request.specs.Acceptance.{acceptance}
+use Rattle.request.proofs.Laws.Acceptance.{accepts, accepted-short}
 use Rattle.reader.specs.declared.asking.Asking.the-variants.{Right}
 use Rattle.reader.specs.declared.buffer.Buffer.the-variants.{Store}
-use Rattle.reader.specs.declared.command.Command.{Command}
-use Rattle.reader.specs.declared.command.Acceptance.the-variants.{Accepted}
-use Rattle.reader.specs.declared.parameter.Parameter.{Parameter}
 use Rattle.reader.specs.declared.reader.Reader.{Reader}
 use Rattle.reader.specs.declared.reader.Answer.{Answer}
-use Rattle.reader.specs.Limits.{headerLength}
 use Rattle.reader.specs.Copying.{onto}
 use Rattle.reader.specs.Parameters.{valueOf}
-use Rattle.reader.specs.Acceptance.{acceptance}
 use Rattle.reader.specs.Replies.{wire, replyTo}
 use Rattle.reader.specs.Answering.{Answered, answering, Lent, sending, judged, executed, answered}
 use Rattle.reader.specs.Sending.{sent}
 use Rattle.reader.specs.Sessions.{Executed, wireOf, History, repeats, next, Session, called, Idle}
-use Rattle.reader.proofs.Laws.Acceptance.{accepts, accepted-short}
 use Rattle.reader.proofs.Laws.Sending.{sent-out}
 use Rattle.reader.proofs.Laws.Sessions.{session-agrees, session-judges, repeat-stored, repeat-sends}
 use Rattle.reader.proofs.Laws.Idle.{idle-keeps}

@@ -9,17 +9,17 @@ use native.Mathlib.Omega.{arith}
 use lib.Dec.{eqb}
 use lib.ListN.{length, take}
 use borrow.Author.Tests.{eq-eqb}
-use Rattle.link.specs.declared.event.Event.{Event}
+use Rattle.ground.specs.Refusals.{number}
+use Rattle.station.specs.declared.event.Event.{Event}
+use Rattle.station.specs.Events.{Name, FRAME, named}
 use Rattle.link.specs.Limits.{mostData}
-use Rattle.link.specs.Refusals.{number}
-use Rattle.link.specs.Events.{Name, FRAME, named}
+use Rattle.request.specs.Limits.{headerLength}
+use Rattle.request.specs.Acceptance.{acceptance}
 use Rattle.reader.specs.declared.asking.Asking.{Asking}
 use Rattle.reader.specs.declared.buffer.Buffer.the-variants.{Store}
 use Rattle.reader.specs.declared.reader.Reader.{Reader}
 use Rattle.reader.specs.declared.reader.Answer.{Answer}
-use Rattle.reader.specs.Limits.{headerLength}
 use Rattle.reader.specs.Asking.{asking}
-use Rattle.reader.specs.Acceptance.{acceptance}
 use Rattle.reader.specs.Answering.{badState, PoweredOn, Answered, Lent, answering, sending, judged, stepped, fits, answered, ByTable, state, noStore, noOut, tooLong, request, steps}
 use Rattle.reader.specs.Sending.{sent}
 use Rattle.reader.specs.Sessions.{Executed, wireOf, History, begun, forgetting, repeats, next, toSend, isRepeat, Kept, Session, made, powered, called}

@@ -5,16 +5,16 @@ use mathlib.Core.Bool.{Bool, true, false}
 use mathlib.Core.List.{List}
 use Prim.Native.Nat.{ℕ}
 use lib.ListN.{length}
-use Rattle.link.specs.declared.event.Event.{Event}
-use Rattle.link.specs.declared.refusal.Refusal.{Refusal}
-use Rattle.link.specs.declared.refusal.Refusal.the-variants.{None, NoRoom, TooLong, BadState, BadRequest}
-use Rattle.link.specs.Refusals.{number}
-use Rattle.link.specs.Events.{Name, named}
+use Rattle.ground.specs.declared.refusal.Refusal.{Refusal}
+use Rattle.ground.specs.declared.refusal.Refusal.the-variants.{None, NoRoom, TooLong, BadState, BadRequest}
+use Rattle.ground.specs.Refusals.{number}
+use Rattle.station.specs.declared.event.Event.{Event}
+use Rattle.station.specs.Events.{Name, named}
+use Rattle.request.specs.Limits.{headerLength}
 use Rattle.reader.specs.declared.memory.Memory.the-variants as Memory
 use Rattle.reader.specs.declared.reader.Reader.{Reader}
 use Rattle.reader.specs.declared.reader.Powered.{Powered}
 use Rattle.reader.specs.declared.reader.Answer.{Answer}
-use Rattle.reader.specs.Limits.{headerLength}
 use Rattle.reader.specs.Asking.{asking}
 use Rattle.reader.specs.Answering.{being, powering, poweredOn, Answered, answering, answerOf, Lent, stepped, fits, answered, ByTable, state, noStore, noOut, tooLong, request, steps}
 use Rattle.reader.specs.Sessions.{History, Session}

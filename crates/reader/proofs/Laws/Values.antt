@@ -7,30 +7,31 @@ use Prim.Native.Nat.{ℕ}
 use lib.Dec.{eqb}
 use lib.ListN.{length, getD, drop}
 use borrow.Author.Tests.{eqb-true, eq-eqb}
-use Rattle.link.specs.declared.event.Event.the-variants.{Frame}
-use Rattle.link.specs.Refusals.{number}
-use Rattle.link.specs.Events.{FRAME, named}
-use Rattle.link.proofs.Laws.Choice.{cond-elim}
+use Rattle.ground.specs.Refusals.{number}
+use Rattle.ground.proofs.Laws.Choice.{cond-elim}
+use Rattle.station.specs.declared.event.Event.the-variants.{Frame}
+use Rattle.station.specs.Events.{FRAME, named}
+use Rattle.request.specs.declared.parameter.Parameter.{Parameter}
+use Rattle.request.specs.declared.command.Command.{Command}
+use Rattle.request.specs.declared.command.Command.the-variants as Command
+use Rattle.request.specs.declared.command.Command.the-variants.{Write, Read}
+use Rattle.request.specs.declared.command.Acceptance.{Acceptance}
+use Rattle.request.specs.declared.command.Acceptance.the-variants.{Accepted, Refused}
+use Rattle.request.specs.Limits.{headerLength}
+use Rattle.request.specs.Parameters.{parameterCode}
+use Rattle.request.specs.Acceptance.{acceptance}
+use Rattle.request.specs.Replies.{DATA}
+use Rattle.request.proofs.Laws.Parameters.{same-code}
 use Rattle.reader.specs.declared.asking.Asking.{Asking}
 use Rattle.reader.specs.declared.asking.Asking.the-variants.{Nothing, Wrong, Right}
-use Rattle.reader.specs.declared.parameter.Parameter.{Parameter}
-use Rattle.reader.specs.declared.command.Command.{Command}
-use Rattle.reader.specs.declared.command.Command.the-variants as Command
-use Rattle.reader.specs.declared.command.Command.the-variants.{Write, Read}
-use Rattle.reader.specs.declared.command.Acceptance.{Acceptance}
-use Rattle.reader.specs.declared.command.Acceptance.the-variants.{Accepted, Refused}
 use Rattle.reader.specs.declared.reader.Reader.{Reader}
 use Rattle.reader.specs.declared.reader.Answer.{Answer}
-use Rattle.reader.specs.Limits.{headerLength}
-use Rattle.reader.specs.Parameters.{parameterCode}
 use Rattle.reader.specs.Asking.{asking}
-use Rattle.reader.specs.Acceptance.{acceptance}
-use Rattle.reader.specs.Replies.{DATA, wire, replyTo}
+use Rattle.reader.specs.Replies.{wire, replyTo}
 use Rattle.reader.specs.Answering.{answering, answered}
 use Rattle.reader.specs.Sending.{sent}
 use Rattle.reader.specs.Sessions.{History, repeats, valuesAfter, judgedNext, next, executes, Kept, Session, powered, called, Unwritten, still, power, other}
 use Rattle.reader.proofs.Laws.Choice.{by-test}
-use Rattle.reader.proofs.Laws.Parameters.{same-code}
 use Rattle.reader.proofs.Laws.Sessions.{session-sends}
 use Rattle.reader.proofs.Laws.Idle.{executes-nothing}
 

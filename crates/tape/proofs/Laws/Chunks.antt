@@ -10,20 +10,21 @@ use borrow.Author.Tests.{eqb-false}
 use lib.Dec.{eqb}
 use lib.ListN.{length, drop, getD, length-append, length-take, length-drop, drop-of-length-le}
 use lib.Seq.{drop-drop}
+use Rattle.ground.specs.Laying.{laid}
+use Rattle.ground.proofs.Laws.Choice.{or-none}
+use Rattle.ground.proofs.Laws.Lists.{drop-next}
+use Rattle.ground.proofs.Laws.Laying.{laid-nil, laid-more, length-laid}
 use Rattle.link.specs.declared.receiver.Receiver.{Receiver}
-use Rattle.link.specs.Laying.{laid}
 use Rattle.link.specs.Receiving.{badState, received}
-use Rattle.link.proofs.Laws.Choice.{or-none}
 use Rattle.link.proofs.Laws.Receiving.{stays-good}
-use Rattle.link.proofs.Laws.Lists.{drop-next}
-use Rattle.link.proofs.Laws.Laying.{laid-nil, laid-more, length-laid}
-use Rattle.tape.specs.declared.side.Side.{Side}
-use Rattle.tape.specs.declared.side.Side.the-variants.{Point, Addressed}
+use Rattle.lines.specs.declared.side.Side.{Side}
+use Rattle.lines.specs.declared.side.Side.the-variants.{Point, Addressed}
+use Rattle.lines.specs.Limits.{leastRoom}
 use Rattle.tape.specs.declared.next.Next.{Next}
 use Rattle.tape.specs.declared.next.Next.the-variants.{Kind, Body, Bad, Full}
 use Rattle.tape.specs.declared.receivers.Receivers.{Receivers}
 use Rattle.tape.specs.declared.tape.Tape.{Tape}
-use Rattle.tape.specs.Limits.{mostRecords, leastRoom}
+use Rattle.tape.specs.Limits.{mostRecords}
 use Rattle.tape.specs.Whole.{kindOf, kind, on, turned}
 use Rattle.tape.specs.Whole as whole
 use Rattle.tape.specs.Taping.{being, awaited, behindKind, stepAt, stepped, isOver, Went, standing, going, Told, writing, badReceivers, awaitsBody, badTape}

@@ -1,19 +1,19 @@
 -- Each row of the table of examples holds of the definitions: antt computes both sides.
 -- Assumes nothing.
 use mathlib.Core.Path.{refl}
-use Rattle.link.specs.Stuffing.{stuffed, stuffing}
-use Rattle.link.specs.Fcs.{shiftStep, shiftSteps, byteStep, run, residue, fcs, fcsBytes}
-use Rattle.link.specs.Sum.{total, sum}
-use Rattle.link.specs.Frame.{checkOf, withCheck, front, came, alike, isRight}
-use Rattle.link.specs.Address.{takes}
-use Rattle.link.specs.Turning.{kept, plain, partner, contentByte, inside, within, turn}
-use Rattle.link.specs.Events.{verdict}
+use Rattle.checks.specs.Fcs.{shiftStep, shiftSteps, byteStep, run, residue, fcs, fcsBytes}
+use Rattle.checks.specs.Sum.{total, sum}
+use Rattle.checks.specs.Check.{checkOf, withCheck, front, came, alike, isRight}
+use Rattle.wire.specs.Stuffing.{stuffed, stuffing}
+use Rattle.station.specs.Address.{takes}
+use Rattle.station.specs.Turning.{kept, plain, partner, contentByte, inside, within, turn}
+use Rattle.station.specs.Events.{verdict}
 use Rattle.link.specs.Receiving.{moved, outcome, heard, received}
 use Rattle.text.specs.Ascii.{ascii}
 use Rattle.text.specs.Decimal.{spelled}
 use Rattle.text.specs.Hex.{digit, further, pairs}
+use Rattle.lines.specs.Lines.{headerLine, letter, line, eventLine, word, lastLine}
 use Rattle.tape.specs.Examples.{examples, EachHolds}
-use Rattle.tape.specs.Lines.{headerLine, letter, line, eventLine, word, lastLine}
 use Rattle.tape.specs.Whole.{kind, parts, entryOf, entries, entryLines, listing}
 
 pub each-holds : EachHolds examples

@@ -9,17 +9,17 @@ use Prim.Native.Nat.{ℕ, _+_, _≤_}
 use native.Mathlib.Omega.{arith}
 use lib.ListN.{length, take, drop, length-append, length-drop}
 use lib.Seq.{drop-drop}
+use Rattle.ground.proofs.Laws.Choice.{cond-elim}
+use Rattle.station.specs.Events.{Name, FRAME, happened}
 use Rattle.link.specs.declared.receiver.Receiver.{Receiver}
-use Rattle.link.specs.Events.{Name, FRAME, happened}
 use Rattle.link.specs.Receiving.{Said, badState, received}
 use Rattle.link.specs.Hearing.{Told, toldAt, note, IsFresh, Hearing, over}
 use Rattle.link.specs.Listing.{Lists}
-use Rattle.link.proofs.Laws.Choice.{cond-elim}
 use Rattle.link.proofs.Laws.Receiving.{stays-good}
 use Rattle.link.proofs.Laws.Demand.{hearing-lists}
 use Rattle.link.proofs.Laws.Hearing.{fresh-point, fresh-station, fresh-good, note-some, note-none, hearing-byte}
-use Rattle.tape.specs.declared.side.Side.{Side}
-use Rattle.tape.specs.declared.side.Side.the-variants.{Point, Addressed}
+use Rattle.lines.specs.declared.side.Side.{Side}
+use Rattle.lines.specs.declared.side.Side.the-variants.{Point, Addressed}
 use Rattle.tape.specs.declared.receivers.Receivers.{Receivers}
 use Rattle.tape.specs.Whole.{Record, heard, Entry, entry, entryOf, entries, lineOn, freshReceivers, on, turned}
 use Rattle.tape.specs.Frames.{byteOn, bytesOn, Carries, Rise, Shows}

@@ -9,18 +9,19 @@ use native.Mathlib.Omega.{arith}
 use borrow.Author.Tests.{le-ltb, lt-ltb, ne-eqb}
 use lib.Dec.{ltb}
 use lib.ListN.{length, drop, length-append, take-append-drop}
+use Rattle.ground.proofs.Laws.Choice.{cond-elim}
 use Rattle.link.specs.declared.receiver.Receiver.{Receiver}
 use Rattle.link.specs.Receiving.{badState, received}
-use Rattle.link.proofs.Laws.Choice.{cond-elim}
 use Rattle.link.proofs.Laws.Receiving.{stays-good}
-use Rattle.tape.specs.declared.side.Side.{Side}
-use Rattle.tape.specs.declared.side.Side.the-variants.{Point, Addressed}
+use Rattle.lines.specs.declared.side.Side.{Side}
+use Rattle.lines.specs.declared.side.Side.the-variants.{Point, Addressed}
+use Rattle.lines.specs.Limits.{leastRoom}
+use Rattle.lines.specs.Lines.{brought}
 use Rattle.tape.specs.declared.next.Next.{Next}
 use Rattle.tape.specs.declared.next.Next.the-variants.{Kind, Body}
 use Rattle.tape.specs.declared.receivers.Receivers.{Receivers}
 use Rattle.tape.specs.declared.tape.Tape.{Tape}
-use Rattle.tape.specs.Limits.{mostRecords, leastRoom}
-use Rattle.tape.specs.Lines.{brought}
+use Rattle.tape.specs.Limits.{mostRecords}
 use Rattle.tape.specs.Whole.{known, kindOf, kind, on, turned}
 use Rattle.tape.specs.Taping.{being, behindKind, stepAt, stepped, isOver, Went, standing, going}
 use Rattle.tape.specs.Running.{laced, Gathered, Run, running}

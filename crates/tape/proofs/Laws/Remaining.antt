@@ -8,20 +8,23 @@ use native.Mathlib.Nat.{add-zero}
 use native.Mathlib.Omega.{arith}
 use lib.Dec.{ltb, eqb}
 use lib.ListN.{length, take, drop}
-use Rattle.link.specs.Events.{happened}
+use Rattle.ground.proofs.Laws.Choice.{cond-elim}
+use Rattle.station.specs.Events.{happened}
 use Rattle.link.specs.Receiving.{Said, received}
-use Rattle.link.proofs.Laws.Choice.{cond-elim}
-use Rattle.tape.specs.declared.side.Side.{Side}
+use Rattle.lines.specs.declared.side.Side.{Side}
+use Rattle.lines.specs.declared.ends.Ending.{Ending}
+use Rattle.lines.specs.declared.ends.Ending.the-variants.{Full as FULL}
+use Rattle.lines.specs.Limits.{leastRoom}
+use Rattle.lines.specs.Lines.{brought, lastLine}
+use Rattle.lines.proofs.Laws.Lines.{no-line}
 use Rattle.tape.specs.declared.next.Next.{Next}
 use Rattle.tape.specs.declared.next.Next.the-variants.{Kind, Body, Bad, Full}
 use Rattle.tape.specs.declared.receivers.Receivers.{Receivers}
 use Rattle.tape.specs.declared.tape.Tape.{Tape}
-use Rattle.tape.specs.Limits.{mostRecords, leastRoom}
-use Rattle.tape.specs.Lines.{brought, Ending, FULL, lastLine}
-use Rattle.tape.specs.Whole as whole
+use Rattle.tape.specs.Limits.{mostRecords}
 use Rattle.tape.specs.Whole.{known, unknown, kind, Parts, noMore, bodyless, before, parts, turned, on, Entry, entryOf, entries, entryLines, eventLines}
+use Rattle.tape.specs.Whole as whole
 use Rattle.tape.specs.Taping.{being, awaited, behindKind, stepAt, stepped, quiet, isOver, Went, going, ending, lastOf}
-use Rattle.tape.proofs.Laws.Running.{no-line}
 
 -- the text that is to come, the last line with it
 unfoldable pub remaining : Tape → List ℕ → List ℕ

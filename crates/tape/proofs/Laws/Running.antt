@@ -1,7 +1,7 @@
 -- Bodies in a row on one line: how they are gathered, and how the receiver hears several in one call.
 -- Assumes nothing.
 use mathlib.Core.Path.{_≡_, refl, sym, ap, ap₂, subst⁻¹, _∙_}
-use mathlib.Core.Bool.{Bool, true, false, true≢false}
+use mathlib.Core.Bool.{Bool, true, false}
 use mathlib.Core.List.{List, [], _∷_, _++_, append-assoc}
 use Prim.Native.Nat.{ℕ, zero, suc, _+_, _*_, _-_, _≤_, _<_}
 use native.Mathlib.Nat.{add-zero}
@@ -10,14 +10,15 @@ use native.Mathlib.Omega.{arith}
 use borrow.Author.Tests.{le-ltb, lt-ltb}
 use lib.ListN.{length, take, drop, set, getD}
 use lib.Seq.{take-suc, take-suc-set, length-take-le}
+use Rattle.station.specs.Events.{happened}
 use Rattle.link.specs.declared.receiver.Receiver.{Receiver}
-use Rattle.link.specs.Events.{Name, NONE, FRAME, CHECK, SHORT, LONG, PAIR, ADDR, happened}
 use Rattle.link.specs.Receiving.{Said, badState, received}
 use Rattle.link.proofs.Laws.Receiving.{received-takes, stays-good, empty-piece}
 use Rattle.link.proofs.Laws.Bytes.{later, received-first, received-later}
-use Rattle.tape.specs.declared.side.Side.{Side}
-use Rattle.tape.specs.Limits.{leastRoom}
-use Rattle.tape.specs.Lines.{eventLine, brought}
+use Rattle.lines.specs.declared.side.Side.{Side}
+use Rattle.lines.specs.Limits.{leastRoom}
+use Rattle.lines.specs.Lines.{eventLine, brought}
+use Rattle.lines.proofs.Laws.Lines.{no-line}
 use Rattle.tape.specs.Running.{laced, linked, Gathered, Run, running}
 
 -- ---- gathering
@@ -69,17 +70,6 @@ gathered kind most chunk piece count some few fits front =
 -- behind some bodies that brought a text
 abbrev pub behindRun : ℕ → List ℕ → Run → Run
 behindRun count text w = record { receiver = w .receiver; count = count + w .count; text = text ++ w .text }
-
--- where nothing happened there is no line
-pub no-line : (n : ℕ) (side : Side) (event : Name) (content : List ℕ) → happened event ≡ false → eventLine n side event content ≡ []
-unfolding eventLine
-no-line n side NONE content e = refl
-no-line n side FRAME content e = absurd (true≢false e)
-no-line n side CHECK content e = absurd (true≢false e)
-no-line n side SHORT content e = absurd (true≢false e)
-no-line n side LONG content e = absurd (true≢false e)
-no-line n side PAIR content e = absurd (true≢false e)
-no-line n side ADDR content e = absurd (true≢false e)
 
 takes-one : (s : Receiver) → badState s ≡ false → (b : ℕ) → received s (b ∷ []) .taken ≡ 1
 takes-one s good b = let t = received-takes s (b ∷ []) good in omega (arith, t .most, t .some (omega arith))

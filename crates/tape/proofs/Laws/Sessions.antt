@@ -12,14 +12,14 @@ use borrow.Author.Tests.{le-ltb}
 use lib.Dec.{ltb}
 use lib.ListN.{length, take, drop, replicate, length-drop, length-replicate, drop-of-length-le}
 use lib.Seq.{drop-drop}
-use Rattle.link.specs.declared.refusal.Refusal.the-variants as refusal
-use Rattle.link.specs.Laying.{laid, Ended}
-use Rattle.link.proofs.Laws.Choice.{cond-elim}
-use Rattle.link.proofs.Laws.Laying.{take-front, put-refused, put-placed}
+use Rattle.ground.specs.declared.refusal.Refusal.the-variants as refusal
+use Rattle.ground.specs.Laying.{laid, Ended}
+use Rattle.ground.proofs.Laws.Choice.{cond-elim}
+use Rattle.ground.proofs.Laws.Laying.{take-front, put-refused, put-placed}
+use Rattle.lines.specs.Limits.{leastRoom}
+use Rattle.lines.specs.Lines.{headerLine, lastLine}
 use Rattle.tape.specs.declared.tape.Tape.{Tape}
 use Rattle.tape.specs.declared.tape.Listed.{Listed}
-use Rattle.tape.specs.Limits.{leastRoom}
-use Rattle.tape.specs.Lines.{headerLine, lastLine}
 use Rattle.tape.specs.Whole.{parts, freshReceivers, entries, entryLines, eventLines, listing}
 use Rattle.tape.specs.Frames.{Shows}
 use Rattle.tape.specs.Taping.{freshTape, stepped, isOver, going, Told, refusing, writing, badTape, listed, lastOf}

@@ -8,12 +8,13 @@ use native.Mathlib.Omega.{arith}
 use borrow.Author.Tests.{lt-ltb, le-ltb, ltb-false, eqb-false}
 use lib.Dec.{ltb, eqb}
 use lib.ListN.{length, length-append}
-use Rattle.link.specs.declared.refusal.Refusal.the-variants.{NoRoom, BadState}
-use Rattle.link.proofs.Laws.Choice.{cond-elim, or-none}
+use Rattle.ground.specs.declared.refusal.Refusal.the-variants.{NoRoom, BadState}
+use Rattle.ground.proofs.Laws.Choice.{cond-elim, or-none}
+use Rattle.lines.specs.Limits.{leastRoom}
 use Rattle.tape.specs.declared.next.Next.{Next}
 use Rattle.tape.specs.declared.next.Next.the-variants.{Kind, Body, Bad, Full}
 use Rattle.tape.specs.declared.tape.Tape.{Tape}
-use Rattle.tape.specs.Limits.{mostRecords, leastRoom}
+use Rattle.tape.specs.Limits.{mostRecords}
 use Rattle.tape.specs.Whole.{on}
 use Rattle.tape.specs.Taping.{freshTape, stepAt, stepped, isOver, Went, going, Told, refusing, writing, badReceivers, badTape, listed}
 use Rattle.tape.proofs.Laws.Hearing.{brought-within}

@@ -4,8 +4,8 @@
 use mathlib.Core.Path.{_≡_, ap}
 use mathlib.Core.List.{List}
 use Prim.Native.Nat.{ℕ}
-use Rattle.link.proofs.Laws.Refusals.{number-injective}
-use Rattle.link.proofs.Laws.Unique.{same}
+use Rattle.ground.proofs.Laws.Refusals.{number-injective}
+use Rattle.ground.proofs.Laws.Unique.{same}
 use Rattle.tape.specs.declared.tape.Listed.{Listed}
 use Rattle.tape.specs.Taping.{Told, told}
 

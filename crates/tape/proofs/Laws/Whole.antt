@@ -9,9 +9,9 @@ use native.Mathlib.Omega.{arith}
 use borrow.Author.Tests.{ne-eqb, eqb-false}
 use lib.Dec.{eqb}
 use lib.ListN.{length}
+use Rattle.lines.specs.declared.ends.Ending.the-variants.{Full as FULL}
 use Rattle.tape.specs.Limits.{mostRecords}
 use Rattle.tape.specs.Whole.{Record, heard, Kind, known, unknown, kind, Parts, noMore, before, parts, taped}
-use Rattle.tape.specs.Lines.{FULL}
 use Rattle.tape.proofs.Laws.Going.{kind-known}
 
 -- these records before others

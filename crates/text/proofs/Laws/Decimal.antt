@@ -10,7 +10,7 @@ use borrow.Author.Tests.{eqb-true, eqb-false, eq-eqb, ne-eqb}
 use lib.Dec.{eqb}
 use lib.ListN.{length, take, drop, set, length-append}
 use lib.Seq.{set-split, drop-at, length-take-le}
-use Rattle.link.proofs.Laws.Choice.{cond-elim}
+use Rattle.ground.proofs.Laws.Choice.{cond-elim}
 use Rattle.text.specs.Decimal.{digit, spelled, mostDigits, decimal, value}
 
 -- a digit put before those that stand

@@ -5,8 +5,8 @@ use mathlib.Core.List.{List, [], _∷_}
 use Prim.Native.Nat.{ℕ, _+_, _*_, _-_, _≤_, _<_}
 use native.Mathlib.Omega.{arith}
 use lib.ListN.{length, getD, set, drop}
-use Rattle.link.specs.Laying.{laid}
-use Rattle.link.proofs.Laws.Laying.{laid-next, laid-more}
+use Rattle.ground.specs.Laying.{laid}
+use Rattle.ground.proofs.Laws.Laying.{laid-next, laid-more}
 use Rattle.text.specs.Hex.{dash, dot, pair, further, pairs}
 
 pub length-further : (l : List ℕ) → length (further l) ≡ 3 * length l

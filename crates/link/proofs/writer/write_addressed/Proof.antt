@@ -1,14 +1,18 @@
 -- `writer::write_addressed` meets its contract: each test of its refusals is a row of the refusal table.
 -- Assumes nothing.
-use Prim.Native.Nat.{_≤_, _<_}
+use mathlib.Core.Path.{_∙_}
+use mathlib.Core.List.{List, [], _∷_}
+use Prim.Native.Nat.{ℕ, _≤_, _<_}
 use native.Mathlib.Omega.{arith}
 use borrow.Author.Needs.{needs}
 use lib.ListN.{length}
+use Rattle.frames.proofs.Laws.Frame.{frame-within}
 use Rattle.link.specs.Limits.{mostData}
+use Rattle.checks.specs.declared.kind.Check.the-variants.{Sum}
+use Rattle.wire.proofs.Laws.Stuffing.{plain-is, special-is}
 use Rattle.link.specs.Frame.{addressedContent}
-use Rattle.link.specs.Writing.{addressedWritten}
-use Rattle.link.proofs.Laws.Stuffing.{plain-is, special-is}
-use Rattle.link.proofs.Laws.Writing.{refuses-length, refuses-address, goes-on}
+use Rattle.link.specs.Writers.{addressedWritten}
+use Rattle.link.proofs.Laws.Writers.{refuses-length, refuses-address, goes-on}
 use Rattle.link.proofs.writer.write_addressed.Statement.{statement}
 use Rattle.link.proofs.writer.write_addressed.Tie as tie
 
@@ -47,7 +51,10 @@ returns-3 c =
     let d = c .before .before .before .before .before .before .before .before .before in
     let h : length (d .args .«data» .now) ≤ mostData = omega arith in
     let known : d .args .address < 0xFD = omega arith in
-    rw (goes-on, h, plain-is (d .args .address) known) (c .before .before .write-frame .ensures)
+    let a = d .args in
+    let head : List ℕ = a .address ∷ a .identifier ∷ a .command ∷ [] in
+    rw (goes-on, h, plain-is (a .address) known)
+    (c .before .before .write-frame .ensures ∙ frame-within Sum head (a .«data» .now) (a .out .now) (omega arith))
 
 pub write-addressed-spec : {M : Type 1} → statement M
 write-addressed-spec =

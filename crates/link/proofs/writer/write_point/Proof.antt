@@ -1,15 +1,18 @@
 -- `writer::write_point` meets its contract: each test of its refusals is a row of the refusal table.
 -- Assumes nothing.
-use mathlib.Core.Path.{_≡_, refl}
+use mathlib.Core.Path.{_≡_, refl, _∙_}
 use mathlib.Core.Bool.{false}
-use Prim.Native.Nat.{_≤_, _<_}
+use mathlib.Core.List.{List, [], _∷_}
+use Prim.Native.Nat.{ℕ, _≤_, _<_}
 use native.Mathlib.Omega.{arith}
 use borrow.Author.Needs.{needs}
 use lib.ListN.{length}
+use Rattle.checks.specs.declared.kind.Check.the-variants.{Fcs}
+use Rattle.frames.proofs.Laws.Frame.{frame-within}
 use Rattle.link.specs.Limits.{mostData}
 use Rattle.link.specs.Frame.{pointContent}
-use Rattle.link.specs.Writing.{pointWritten}
-use Rattle.link.proofs.Laws.Writing.{refuses-length, goes-on}
+use Rattle.link.specs.Writers.{pointWritten}
+use Rattle.link.proofs.Laws.Writers.{refuses-length, goes-on}
 use Rattle.link.proofs.writer.write_point.Statement.{statement}
 use Rattle.link.proofs.writer.write_point.Tie as tie
 
@@ -36,8 +39,11 @@ unfolding pointWritten pointContent
 returns-2 c =
     let d = c .before .before .before .before .before in
     let good : false ≡ false = refl in
-    let h : length (d .before .before .before .args .«data» .now) ≤ mostData = omega arith in
-    rw (goes-on, h, good) (c .before .before .write-frame .ensures)
+    let a = d .before .before .before .args in
+    let h : length (a .«data» .now) ≤ mostData = omega arith in
+    let head : List ℕ = a .identifier ∷ a .command ∷ [] in
+    rw (goes-on, h, good)
+    (c .before .before .write-frame .ensures ∙ frame-within Fcs head (a .«data» .now) (a .out .now) (omega arith))
 
 pub write-point-spec : {M : Type 1} → statement M
 write-point-spec =

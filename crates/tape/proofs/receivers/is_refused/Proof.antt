@@ -6,8 +6,8 @@ use mathlib.Core.List.{[]}
 use Prim.Native.Nat.{ℕ}
 use borrow.Author.Needs.{needs}
 use lib.Dec.{eqb}
-use Rattle.link.specs.declared.refusal.Refusal.the-variants.{BadState}
-use Rattle.link.specs.Refusals.{number}
+use Rattle.ground.specs.declared.refusal.Refusal.the-variants.{BadState}
+use Rattle.ground.specs.Refusals.{number}
 use Rattle.link.specs.Receiving.{Said, badState}
 use Rattle.link.proofs.Laws.Receiving.{refused-only}
 use Rattle.tape.proofs.receivers.is_refused.Statement.{statement}

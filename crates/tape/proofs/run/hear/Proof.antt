@@ -7,12 +7,13 @@ use native.Mathlib.Omega.{arith}
 use borrow.Author.Tests.{leb-true, leb-false}
 use lib.ListN.{length, drop, length-drop}
 use lib.Seq.{take-all}
-use Rattle.link.specs.Limits.{mostContent}
-use Rattle.link.specs.Laying.{placed}
+use Rattle.ground.specs.Laying.{placed}
+use Rattle.wire.specs.Limits.{mostContent}
 use Rattle.link.specs.Receiving.{Said, saying, received}
 use Rattle.link.proofs.Laws.Receiving.{length-within}
-use Rattle.tape.specs.Limits.{leastRoom}
-use Rattle.tape.specs.Lines.{brought}
+use Rattle.lines.specs.Limits.{leastRoom}
+use Rattle.lines.specs.Lines.{brought}
+use Rattle.lines.proofs.Laws.Lines.{puts-heard}
 use Rattle.tape.specs.Running.{leaving, running}
 use Rattle.tape.proofs.Laws.Hearing.{Goes, leavingBehind, out-of-room, out-of-bodies, takes-some, takes-most, next-call, none-before}
 use Rattle.tape.proofs.run.hear.Statement.{statement}
@@ -96,15 +97,7 @@ add-put-heard : tie.Need-add-put-heard Inv-loop μ-loop
 add-put-heard c = omega (arith, takes c, c .before .before .before .before .before .before .before .before .before .before .before .pre)
 
 put-heard-requires : tie.Need-put-heard-requires Inv-loop μ-loop
-put-heard-requires c κs = (
-  takes (c .before) .2,
-  omega (
-    arith,
-    leb-true leastRoom (c .before .before .before .before .before .before .room .result)
-        (c .before .before .before .before .before .if1 .taken),
-    c .before .before .before .before .before .before .room .ensures,
-  ),
-)
+put-heard-requires c κs = tt
 
 loop-less : tie.Need-loop-less Inv-loop μ-loop
 loop-less c =
@@ -120,13 +113,15 @@ loop-again c =
     let said = received (l .receiver) (drop (l .count) (a .bodies .now)) in
     let number : a .records + (l .count + r .taken - 1) ≡ a .records + l .count + (said .taken - 1) =
     omega (arith, takes d, ap (λ (s : Said). s .taken) (says d)) in
-    let puts = p .ensures ∙ ap₂ (λ (n : ℕ) (s : Said). placed (brought n (a .side) s) (l .out) (l .end)) number (says d) in
     let fits : leastRoom ≤ length (l .out) - l .end = omega (
       arith,
       leb-true leastRoom (c .before .before .before .before .before .before .before .before .before .room .result)
           (c .before .before .before .before .before .before .before .before .if1 .taken),
       c .before .before .before .before .before .before .before .before .before .room .ensures,
-    ) in (
+    ) in
+    let puts = p .ensures
+    ∙ puts-heard (a .records + (l .count + r .taken - 1)) (a .side) (saying r) (l .out) (l .end) (takes d .2) fits
+    ∙ ap₂ (λ (n : ℕ) (s : Said). placed (brought n (a .side) s) (l .out) (l .end)) number (says d) in (
       subst⁻¹ (λ (s : Said). Goes (a .side) (a .records) (a .bodies .now)
           (leaving (running (length (a .out .now) - a .at) (a .side) (a .records) (a .receiver) (a .bodies .now)) (a .out .now) (a .at))
           (p .last .1 .1 .1 .0) (s .receiver) (l .count + s .taken) (p .result .end)) (says d)

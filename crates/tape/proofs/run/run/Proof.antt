@@ -18,10 +18,10 @@ cast-least : tie.Need-cast-least
 cast-least c = search needs
 
 least-requires : tie.Need-least-requires
-least-requires c κs = search needs
+least-requires c κs = tt
 
 kind-of-requires : tie.Need-kind-of-requires
-kind-of-requires c κs = search needs
+kind-of-requires c κs = tt
 
 gather-requires : tie.Need-gather-requires
 gather-requires c κs =

@@ -7,7 +7,7 @@ use Prim.Native.Nat.{ℕ, _-_, _≤_}
 use native.Mathlib.Omega.{arith}
 use lib.ListN.{length, drop, length-set, length-drop}
 use lib.Seq.{take-all}
-use Rattle.link.specs.Laying.{put}
+use Rattle.ground.specs.Laying.{put}
 use Rattle.text.specs.Decimal.{mostDigits, spelled, decimal}
 use Rattle.text.proofs.Laws.Decimal.{spelled-on, spelled-first, spelled-none}
 use Rattle.text.proofs.decimal.put_decimal.Statement.{statement}

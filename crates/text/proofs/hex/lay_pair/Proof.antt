@@ -6,8 +6,8 @@ use Prim.Native.Nat.{ℕ, _+_}
 use native.Mathlib.Omega.{arith}
 use borrow.Author.Needs.{needs}
 use lib.ListN.{set, length-set}
-use Rattle.link.specs.Laying.{laid}
-use Rattle.link.proofs.Laws.Laying.{set-laid, laid-next}
+use Rattle.ground.specs.Laying.{laid}
+use Rattle.ground.proofs.Laws.Laying.{set-laid, laid-next}
 use Rattle.text.proofs.hex.lay_pair.Statement.{statement}
 use Rattle.text.proofs.hex.lay_pair.Tie as tie
 

@@ -4,9 +4,9 @@ use mathlib.Core.Path.{_≡_, refl, _∙_}
 use Prim.Native.Nat.{_+_, _*_, _-_, _≤_, _<_}
 use native.Mathlib.Omega.{arith}
 use lib.ListN.{length, drop, length-set, drop-of-length-le}
-use Rattle.link.specs.Laying.{laid}
-use Rattle.link.proofs.Laws.Lists.{drop-next}
-use Rattle.link.proofs.Laws.Laying.{laid-nil}
+use Rattle.ground.specs.Laying.{laid}
+use Rattle.ground.proofs.Laws.Lists.{drop-next}
+use Rattle.ground.proofs.Laws.Laying.{laid-nil}
 use Rattle.text.specs.Hex.{dot, further}
 use Rattle.text.proofs.Laws.Hex.{laid-further, laid-pairs}
 use Rattle.text.proofs.hex.lay_pairs.Statement.{statement}

@@ -5,8 +5,8 @@ use mathlib.Core.List.{List}
 use Prim.Native.Nat.{ℕ, _+_}
 use native.Mathlib.Omega.{arith}
 use borrow.Author.Needs.{needs}
-use Rattle.link.specs.Laying.{put}
-use Rattle.link.proofs.Laws.Laying.{put-refused, put-placed}
+use Rattle.ground.specs.Laying.{put}
+use Rattle.ground.proofs.Laws.Laying.{put-refused, put-placed}
 use Rattle.text.specs.Hex.{pairs}
 use Rattle.text.proofs.Laws.Hex.{length-pairs, pairs-none}
 use Rattle.text.proofs.hex.put_pairs.Statement.{statement}

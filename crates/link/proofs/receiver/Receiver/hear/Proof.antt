@@ -7,13 +7,13 @@ use native.Mathlib.Omega.{arith}
 use borrow.Author.Needs.{needs}
 use lib.ListN.{length, take, length-map}
 use lib.Seq.{length-take-le}
-use Rattle.link.specs.declared.frame.Check.{Check}
-use Rattle.link.specs.declared.event.Verdict.{Verdict}
+use Rattle.checks.specs.declared.kind.Check.{Check}
+use Rattle.wire.specs.Limits.{mostContent}
+use Rattle.station.specs.declared.event.Verdict.{Verdict}
+use Rattle.station.specs.Events.{verdict}
+use Rattle.station.proofs.Laws.Turning.{Room, turn-room}
 use Rattle.link.specs.declared.receiver.Receiver.{Receiver}
-use Rattle.link.specs.Limits.{mostContent}
-use Rattle.link.specs.Events.{verdict}
 use Rattle.link.specs.Receiving.{being, outside, moved, outcome, answering, heard}
-use Rattle.link.proofs.Laws.Turning.{Room, turn-room}
 use Rattle.link.proofs.Laws.Receiving.{Going, runs-out, next-byte, breaks-off}
 use Rattle.link.proofs.receiver.Receiver.hear.Statement.{statement}
 use Rattle.link.proofs.receiver.Receiver.hear.Tie as tie

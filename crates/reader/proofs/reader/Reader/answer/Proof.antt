@@ -2,7 +2,7 @@
 -- Assumes nothing.
 use mathlib.Core.Path.{sym, ap, _∙_}
 use borrow.Author.Needs.{needs}
-use Rattle.link.specs.Events.{named}
+use Rattle.station.specs.Events.{named}
 use Rattle.reader.specs.declared.reader.Answer.{Answer}
 use Rattle.reader.specs.Answering.{answering}
 use Rattle.reader.proofs.Laws.Answering.{refuses-state, refuses-store, refuses-out, refuses-antenna, heeds}

@@ -6,13 +6,14 @@ use Prim.Native.Nat.{ℕ}
 use native.Mathlib.Omega.{arith}
 use lib.ListN.{getD}
 use borrow.Author.Needs.{needs}
+use Rattle.request.specs.Acceptance.{acceptance}
+use Rattle.request.specs.Replies.{NACK, sign}
+use Rattle.request.proofs.Laws.Lists.{take-rest}
+use Rattle.request.proofs.Laws.Acceptance.{accepts, carries}
 use Rattle.reader.specs.declared.reader.Answer.{Answer}
-use Rattle.reader.specs.Acceptance.{acceptance}
-use Rattle.reader.specs.Replies.{NACK, sign, replyContent}
+use Rattle.reader.specs.Replies.{replyContent}
 use Rattle.reader.specs.Answering.{answering, nacked, executed}
 use Rattle.reader.proofs.Laws.Answering.{put-answers, framed-by, framed-new, front-least}
-use Rattle.reader.proofs.Laws.Lists.{take-rest}
-use Rattle.reader.proofs.Laws.Acceptance.{accepts, carries}
 use Rattle.reader.proofs.reader.Reader.answer_frame.Statement.{statement}
 use Rattle.reader.proofs.reader.Reader.answer_frame.Tie as tie
 

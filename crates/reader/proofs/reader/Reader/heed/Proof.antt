@@ -4,7 +4,8 @@ use mathlib.Core.Path.{sym, _∙_}
 use native.Mathlib.Omega.{arith}
 use lib.ListN.{getD}
 use borrow.Author.Needs.{needs}
-use Rattle.reader.specs.Replies.{NACK, sign, replyContent}
+use Rattle.request.specs.Replies.{NACK, sign}
+use Rattle.reader.specs.Replies.{replyContent}
 use Rattle.reader.proofs.Laws.Answering.{front-least, put-answers}
 use Rattle.reader.proofs.reader.Reader.heed.Statement.{statement}
 use Rattle.reader.proofs.reader.Reader.heed.Tie as tie

@@ -10,11 +10,12 @@ use borrow.Author.Tests.{leb-true, leb-false}
 use lib.ListN.{length, take, drop, length-drop}
 use lib.Seq.{take-all}
 use Rattle.link.specs.declared.receiver.Receiver.{Receiver}
+use Rattle.lines.specs.Limits.{leastRoom}
 use Rattle.tape.specs.declared.receivers.Receivers.{Receivers}
 use Rattle.tape.specs.declared.next.Next.{Next}
 use Rattle.tape.specs.declared.next.Next.the-variants.{Kind, Body}
 use Rattle.tape.specs.declared.tape.Tape.{Tape}
-use Rattle.tape.specs.Limits.{mostRecords, leastRoom}
+use Rattle.tape.specs.Limits.{mostRecords}
 use Rattle.tape.specs.Whole.{on, turned}
 use Rattle.tape.specs.Running.{Heard, left}
 use Rattle.tape.specs.Taping.{being, isOver, going, Told, writing}

@@ -1,0 +1,2 @@
+-- Theorems about the definitions of specs/, each with the noun it speaks of.
+pub mod Frame

@@ -1,0 +1,64 @@
+-- `frame::write_frame` meets its contract: what the two tests let pass is a content within the limit.
+-- Assumes nothing.
+use mathlib.Core.Path.{sym, ap, _∙_}
+use native.Mathlib.Omega.{arith}
+use borrow.Author.Needs.{needs}
+use Rattle.ground.specs.Refusals.{Answer}
+use Rattle.checks.proofs.Laws.Check.{check-most}
+use Rattle.wire.specs.Writing.{leaving}
+use Rattle.frames.proofs.Laws.Frame.{frame-over}
+use Rattle.frames.proofs.frame.write_frame.Statement.{statement}
+use Rattle.frames.proofs.frame.write_frame.Tie as tie
+
+check-length-requires : tie.Need-check-length-requires
+check-length-requires c κs = search needs
+
+sub-most : tie.Need-sub-most
+sub-most c = omega (arith, c .check-length .ensures, check-most (c .before .before .before .before .args .check))
+
+refused-requires : tie.Need-refused-requires
+refused-requires c κs = search needs
+
+returns : tie.Need-returns
+returns c =
+    let a = c .before .before .before .before .before .before .args in
+    ap (λ (w : Answer). leaving w (a .out .now)) (c .refused .ensures)
+    ∙ sym (frame-over (a .check) (a .head .now) (a .«data» .now) (a .out .now) (omega (arith, c .before .before .check-length .ensures)))
+
+sub-if2 : tie.Need-sub-if2
+sub-if2 c = search needs
+
+refused-requires-2 : tie.Need-refused-requires-2
+refused-requires-2 c κs = search needs
+
+returns-2 : tie.Need-returns-2
+returns-2 c =
+    let a = c .before .before .before .before .before .before .before .args in
+    ap (λ (w : Answer). leaving w (a .out .now)) (c .refused2 .ensures)
+    ∙ sym (frame-over (a .check) (a .head .now) (a .«data» .now) (a .out .now) (omega (arith, c .before .before .before .check-length .ensures)))
+
+lay-frame-requires : tie.Need-lay-frame-requires
+lay-frame-requires c κs =
+    let a = c .before .before .before .before .before .before .before .args in
+    omega (arith, c .before .before .before .check-length .ensures, check-most (a .check))
+
+same-length : tie.Need-same-length
+same-length c = search needs
+
+returns-3 : tie.Need-returns-3
+returns-3 c = search needs
+
+pub write-frame-spec : {M : Type 1} → statement M
+write-frame-spec =
+    tie.close
+    (tie.spec
+    check-length-requires
+    sub-most
+    refused-requires
+    returns
+    sub-if2
+    refused-requires-2
+    returns-2
+    lay-frame-requires
+    same-length
+    returns-3)

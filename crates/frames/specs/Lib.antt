@@ -1,0 +1,2 @@
+-- What a reader of this library must believe: a frame put together and written. Read Frame beside document 01, 'Layout of a frame'.
+pub mod Frame

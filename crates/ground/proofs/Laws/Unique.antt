@@ -1,0 +1,28 @@
+-- A call's statement leaves no choice: two results that it allows are equal. docs/STATEMENTS.md cites one of these for each call.
+-- Assumes nothing.
+use mathlib.Core.Path.{_≡_, sym, ap, _∙_}
+use mathlib.Core.List.{List}
+use Prim.Native.Nat.{ℕ}
+use Rattle.ground.specs.declared.refusal.Counted.{Counted}
+use Rattle.ground.specs.declared.laying.Placed.{Placed}
+use Rattle.ground.specs.Refusals.{Answer, answered}
+use Rattle.ground.specs.Laying.{Ended, ended}
+use Rattle.ground.proofs.Laws.Refusals.{number-injective}
+
+-- of a call that answers a number
+pub same : {A : Type 0} {r s t : A} → r ≡ t → s ≡ t → r ≡ s
+same p q = p ∙ sym q
+
+-- of a call that answers a count or a refusal
+pub same-answer : {r s : Counted} {t : Answer} → answered r ≡ t → answered s ≡ t → r ≡ s
+same-answer {r} {s} p q =
+    let e : answered r ≡ answered s = same p q in
+    let why = number-injective (r .refusal) (s .refusal) (ap (λ (a : Answer). a .refusal) e) in
+    λ i. record { refusal = why i; count = e i .count }
+
+-- of a call that puts bytes at a place of one
+pub same-ended : {r s : Placed} {o p : List ℕ} {t : Ended} → ended r o ≡ t → ended s p ≡ t → (r ≡ s) × (o ≡ p)
+same-ended {r} {s} {o} {p} d f =
+    let e : ended r o ≡ ended s p = same d f in
+    let why = number-injective (r .refusal) (s .refusal) (ap (λ (a : Ended). a .refusal) e) in
+    (λ i. record { refusal = why i; end = e i .end }, λ i. e i .out)

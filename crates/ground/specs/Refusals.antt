@@ -1,0 +1,33 @@
+-- The refusals with their numbers, and an answer that counts bytes, in these numbers. 01, Refusal numbers. Assumes nothing.
+use Prim.Native.Nat.{ℕ}
+use Rattle.ground.specs.declared.refusal.Refusal.{Refusal}
+use Rattle.ground.specs.declared.refusal.Refusal.the-variants.{None, NoRoom, TooLong, BadAddress, BadState, BadRequest, WrongId, WrongCommand, WrongLength, WrongReason}
+use Rattle.ground.specs.declared.refusal.Counted.{Counted}
+
+-- 0 is no refusal
+abbrev pub number : Refusal → ℕ
+number None = 0
+number NoRoom = 1
+number TooLong = 2
+number BadAddress = 3
+number BadState = 4
+number BadRequest = 5
+number WrongId = 6
+number WrongCommand = 7
+number WrongLength = 8
+number WrongReason = 9
+
+pub record Answer : Type 0 where
+  pub refusal : ℕ
+  pub count : ℕ
+
+-- what a call's result says
+abbrev pub answered : Counted → Answer
+answered r = record { refusal = number (r .refusal); count = r .count }
+
+-- a refused call returns the number and count 0
+abbrev pub refused : Refusal → Answer
+refused why = record { refusal = number why; count = 0 }
+
+abbrev pub counted : ℕ → Answer
+counted n = record { refusal = 0; count = n }

@@ -1,0 +1,113 @@
+-- The longest line has room in the stated least room; which line an event has, and when it is refused.
+-- Assumes nothing.
+use mathlib.Core.Path.{_≡_, refl}
+use mathlib.Core.Bool.{false, true≢false}
+use mathlib.Core.List.{List, []}
+use Prim.Native.Nat.{ℕ, _-_, _≤_, _<_, zero-le}
+use native.Mathlib.Omega.{arith}
+use borrow.Author.Tests.{lt-ltb, le-ltb}
+use lib.ListN.{length, length-append}
+use Rattle.ground.specs.declared.refusal.Refusal.the-variants.{NoRoom, TooLong}
+use Rattle.ground.specs.Laying.{placed}
+use Rattle.wire.specs.Limits.{mostContent}
+use Rattle.station.specs.Events.{Name, NONE, FRAME, CHECK, SHORT, LONG, PAIR, ADDR, happened}
+use Rattle.link.specs.Receiving.{Said}
+use Rattle.text.specs.Ascii.{ascii}
+use Rattle.text.proofs.Laws.Decimal.{length-decimal}
+use Rattle.text.proofs.Laws.Hex.{pairs-within}
+use Rattle.lines.specs.declared.ends.Ending.{Ending}
+use Rattle.lines.specs.declared.ends.Ending.the-variants.{End, Cut, Bad, Full}
+use Rattle.lines.specs.declared.side.Side.{Side}
+use Rattle.lines.specs.declared.side.Side.the-variants.{Point, Addressed}
+use Rattle.lines.specs.Limits.{leastRoom}
+use Rattle.lines.specs.Lines.{headerLine, letter, line, eventLine, brought, refusing, putHeard, word, lastLine}
+use Rattle.lines.specs.Words.{nameOf}
+
+pub length-letter : (side : Side) → length (letter side) ≡ 3
+unfolding letter ascii
+length-letter Point = refl
+length-letter Addressed = refl
+
+length-word : (e : Ending) → length (word e) ≤ 5
+unfolding word ascii
+length-word End = omega arith
+length-word Cut = omega arith
+length-word Bad = omega arith
+length-word Full = omega arith
+
+pub length-name : (event : Name) → length (nameOf event) ≤ 6
+unfolding nameOf ascii
+length-name NONE = zero-le
+length-name FRAME = omega arith
+length-name CHECK = omega arith
+length-name SHORT = omega arith
+length-name LONG = omega arith
+length-name PAIR = omega arith
+length-name ADDR = omega arith
+
+pub line-within : (n : ℕ) (side : Side) (name content : List ℕ) → n ≤ 0xFFFFFFFF → length name ≤ 6 → length content ≤ mostContent
+    → length (line n side name content) ≤ leastRoom
+unfolding line ascii
+line-within n side name content few short fits =
+    let d = length-decimal n few in
+    let l = length-letter side in
+    let p = pairs-within content mostContent (omega arith) fits in
+    simp length-append (omega arith)
+
+pub event-within : (n : ℕ) (side : Side) (event : Name) (content : List ℕ) → n ≤ 0xFFFFFFFF → length content ≤ mostContent
+    → length (eventLine n side event content) ≤ leastRoom
+unfolding eventLine ascii
+event-within n side NONE content few fits = zero-le
+event-within n side FRAME content few fits = line-within n side (ascii "FRAME ") content few (omega arith) fits
+event-within n side CHECK content few fits = line-within n side (ascii "CHECK ") [] few (omega arith) zero-le
+event-within n side SHORT content few fits = line-within n side (ascii "SHORT ") [] few (omega arith) zero-le
+event-within n side LONG content few fits = line-within n side (ascii "LONG ") [] few (omega arith) zero-le
+event-within n side PAIR content few fits = line-within n side (ascii "PAIR ") [] few (omega arith) zero-le
+event-within n side ADDR content few fits = line-within n side (ascii "ADDR ") [] few (omega arith) zero-le
+
+-- and the longest last line in sixteen places
+pub last-within : (e : Ending) (n : ℕ) → n ≤ 0xFFFFFFFF → length (lastLine e n) ≤ 16
+unfolding lastLine ascii
+last-within e n few =
+    let w = length-word e in
+    let d = length-decimal n few in
+    simp length-append (omega arith)
+
+-- the header line has room too
+pub header-within : length headerLine ≤ leastRoom
+unfolding headerLine ascii
+header-within = omega arith
+
+-- ---- which line an event has
+
+-- none where nothing happened
+pub no-line : (n : ℕ) (side : Side) (event : Name) (content : List ℕ) → happened event ≡ false → eventLine n side event content ≡ []
+unfolding eventLine
+no-line n side NONE content e = refl
+no-line n side FRAME content e = absurd (true≢false e)
+no-line n side CHECK content e = absurd (true≢false e)
+no-line n side SHORT content e = absurd (true≢false e)
+no-line n side LONG content e = absurd (true≢false e)
+no-line n side PAIR content e = absurd (true≢false e)
+no-line n side ADDR content e = absurd (true≢false e)
+
+-- FRAME's shows the content
+pub frame-line : (n : ℕ) (side : Side) (content : List ℕ) → line n side (nameOf FRAME) content ≡ eventLine n side FRAME content
+unfolding nameOf eventLine
+frame-line n side content = refl
+
+-- ---- rows 2 and 1 of the refusal table, in this order, and the line where neither applies
+
+module _ (n : ℕ) (side : Side) (said : Said) (out : List ℕ) (at : ℕ) where
+  pub refuses-long : mostContent < said .length → putHeard n side said out at ≡ refusing TooLong out at
+  unfolding putHeard
+  refuses-long long = rw (lt-ltb mostContent (said .length) long)
+
+  pub refuses-room : said .length ≤ mostContent → length out - at < leastRoom → putHeard n side said out at ≡ refusing NoRoom out at
+  unfolding putHeard
+  refuses-room fits short = rw (le-ltb mostContent (said .length) fits, lt-ltb (length out - at) leastRoom short)
+
+  pub puts-heard : said .length ≤ mostContent → leastRoom ≤ length out - at
+      → putHeard n side said out at ≡ placed (brought n side said) out at
+  unfolding putHeard
+  puts-heard fits roomy = rw (le-ltb mostContent (said .length) fits, le-ltb (length out - at) leastRoom roomy)

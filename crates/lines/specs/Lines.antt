@@ -1,0 +1,70 @@
+-- The lines of a listing, and what the call that puts the line of an event answers. 01, The listing program, and Refusal numbers, rows 2
+-- and 1 in their sense. Assumes nothing.
+use Prim.Native.Nat.{ℕ, _-_}
+use mathlib.Core.Bool.{cond}
+use mathlib.Core.List.{List, [], _++_}
+use lib.Dec.{ltb}
+use lib.ListN.{length, take}
+use Rattle.ground.specs.declared.refusal.Refusal.{Refusal}
+use Rattle.ground.specs.declared.refusal.Refusal.the-variants.{NoRoom, TooLong}
+use Rattle.ground.specs.Refusals.{number}
+use Rattle.ground.specs.Laying.{Ended, placed}
+use Rattle.wire.specs.Limits.{mostContent}
+use Rattle.station.specs.Events.{Name, NONE, FRAME, CHECK, SHORT, LONG, PAIR, ADDR}
+use Rattle.link.specs.Receiving.{Said}
+use Rattle.text.specs.Ascii.{ascii}
+use Rattle.text.specs.Decimal.{decimal}
+use Rattle.text.specs.Hex.{pairs}
+use Rattle.lines.specs.declared.ends.Ending.{Ending}
+use Rattle.lines.specs.declared.ends.Ending.the-variants.{End, Cut, Bad, Full}
+use Rattle.lines.specs.declared.side.Side.{Side}
+use Rattle.lines.specs.declared.side.Side.the-variants.{Point, Addressed}
+use Rattle.lines.specs.Limits.{leastRoom}
+
+-- the line above all others
+unfoldable pub headerLine : List ℕ
+headerLine = ascii "record line event content\n"
+
+-- P or A, between blanks
+unfoldable pub letter : Side → List ℕ
+letter Point = ascii " P "
+letter Addressed = ascii " A "
+
+-- number of records before, P or A, event name with a blank, content as upper-case hex pairs joined by dots, `-` for none
+unfoldable pub line : ℕ → Side → List ℕ → List ℕ → List ℕ
+line number side name content = decimal number ++ (letter side ++ (name ++ (pairs content ++ ascii "\n")))
+
+-- one line for an event, with its content for FRAME; none where nothing happened
+unfoldable pub eventLine : ℕ → Side → Name → List ℕ → List ℕ
+eventLine number side NONE content = []
+eventLine number side FRAME content = line number side (ascii "FRAME ") content
+eventLine number side CHECK content = line number side (ascii "CHECK ") []
+eventLine number side SHORT content = line number side (ascii "SHORT ") []
+eventLine number side LONG content = line number side (ascii "LONG ") []
+eventLine number side PAIR content = line number side (ascii "PAIR ") []
+eventLine number side ADDR content = line number side (ascii "ADDR ") []
+
+-- the line of what a receiver said of a byte
+abbrev pub brought : ℕ → Side → Said → List ℕ
+brought n side said = eventLine n side (said .event) (take (said .length) (said .content))
+
+-- a refused call leaves the buffer as before
+abbrev pub refusing : Refusal → List ℕ → ℕ → Ended
+refusing why out at = record { refusal = number why; end = at; out = out }
+
+-- in the sense of row 2: more content than a frame may have is TooLong; in the sense of row 1: fewer places from `at` on than the least room
+-- is NoRoom. Order: 2, 1, as the frame writers'
+unfoldable pub putHeard : ℕ → Side → Said → List ℕ → ℕ → Ended
+putHeard n side said out at =
+    cond (ltb mostContent (said .length)) (refusing TooLong out at)
+    (cond (ltb (length out - at) leastRoom) (refusing NoRoom out at) (placed (brought n side said) out at))
+
+-- `end`, `cut`, `bad` or `full`, with the number of whole records
+unfoldable pub word : Ending → List ℕ
+word End = ascii "end "
+word Cut = ascii "cut "
+word Bad = ascii "bad "
+word Full = ascii "full "
+
+unfoldable pub lastLine : Ending → ℕ → List ℕ
+lastLine ending records = word ending ++ (decimal records ++ ascii "\n")

@@ -1,0 +1,5 @@
+// The line on which a byte was heard.
+pub enum Side {
+    Point,
+    Addressed,
+}

@@ -1,0 +1,135 @@
+-- The master's rows: when each refuses, and what is read where none does.
+-- Assumes nothing.
+use mathlib.Core.Path.{_≡_, refl, ap}
+use mathlib.Core.Bool.{false, true≢false}
+use mathlib.Core.List.{List, _∷_}
+use Prim.Native.Nat.{ℕ}
+use native.Mathlib.Omega.{arith}
+use lib.Dec.{eqb}
+use lib.ListN.{length, getD}
+use borrow.Author.Tests.{eqb-false, eq-eqb, ne-eqb}
+use Rattle.ground.specs.declared.refusal.Refusal.the-variants.{BadRequest, WrongId, WrongCommand}
+use Rattle.ground.proofs.Laws.Choice.{cond-elim}
+use Rattle.request.specs.declared.command.Command.{Command}
+use Rattle.request.specs.declared.command.Acceptance.{Acceptance}
+use Rattle.request.specs.declared.command.Acceptance.the-variants.{Accepted, Refused}
+use Rattle.request.specs.Acceptance.{acceptance, isAccepted}
+use Rattle.request.specs.Replies.{sign}
+use Rattle.master.specs.Reading.{replyData, Outcome, refusing, isDue, wrongId, isSign, wrongCommand, signRead, dataRead, readAs, readBy, replyRead, Heeded, Signed, reason, isWrite, isNack, reasonRead, ByTable, request, identity, otherCommand, signLength, dataLength, ackDue, noReason, ack, nack, bytes}
+
+module _ (identifier code : ℕ) (reply : List ℕ) (asks : Command) where
+  -- row 6
+  pub refuses-empty : length reply ≡ 0 → readAs identifier code reply asks ≡ refusing WrongId
+  unfolding readAs
+  refuses-empty none = simp none
+
+  pub refuses-identifier : (length reply ≡ 0 → ⊥) → (getD reply 0 0 ≡ identifier → ⊥) → readAs identifier code reply asks ≡ refusing WrongId
+  unfolding readAs
+  refuses-identifier some other = simp (ne-eqb (length reply) 0 some, ne-eqb (getD reply 0 0) identifier other)
+
+  module _ (some : length reply ≡ 0 → ⊥) (own : getD reply 0 0 ≡ identifier) where
+    -- row 7
+    pub refuses-absent : length reply ≡ 1 → readAs identifier code reply asks ≡ refusing WrongCommand
+    unfolding readAs
+    refuses-absent one = simp (eq-eqb (getD reply 0 0) identifier own, one)
+
+    module _ (more : length reply ≡ 1 → ⊥) where
+      pub reads-sign : getD reply 1 0 ≡ sign → readAs identifier code reply asks ≡ signRead asks (replyData reply)
+      unfolding readAs
+      reads-sign mark =
+          simp (
+            ne-eqb (length reply) 0 some,
+            eq-eqb (getD reply 0 0) identifier own,
+            ne-eqb (length reply) 1 more,
+            eq-eqb
+                (getD reply 1 0) sign mark,
+          )
+
+      module _ (plain : getD reply 1 0 ≡ sign → ⊥) where
+        pub refuses-command : (getD reply 1 0 ≡ code → ⊥) → readAs identifier code reply asks ≡ refusing WrongCommand
+        unfolding readAs
+        refuses-command other =
+            simp (
+              ne-eqb (length reply) 0 some,
+              eq-eqb (getD reply 0 0) identifier own,
+              ne-eqb (length reply) 1 more,
+              ne-eqb (getD reply 1 0) sign plain,
+              ne-eqb (getD reply 1 0) code other,
+            )
+
+        pub refuses-echo : getD reply 1 0 ≡ code → code ≡ 0x01 → readAs identifier code reply asks ≡ refusing WrongCommand
+        unfolding readAs
+        refuses-echo same write =
+            simp (
+              ne-eqb (length reply) 0 some,
+              eq-eqb (getD reply 0 0) identifier own,
+              ne-eqb (length reply) 1 more,
+              ne-eqb (getD reply 1 0) sign plain,
+              eq-eqb (getD reply 1 0) code same,
+              eq-eqb code 0x01 write,
+            )
+
+        pub reads-data : getD reply 1 0 ≡ code → (code ≡ 0x01 → ⊥) → readAs identifier code reply asks ≡ dataRead asks (replyData reply)
+        unfolding readAs
+        reads-data same other =
+            simp (
+              ne-eqb (length reply) 0 some,
+              eq-eqb (getD reply 0 0) identifier own,
+              ne-eqb (length reply) 1 more,
+              ne-eqb (getD reply 1 0) sign plain,
+              eq-eqb (getD reply 1 0) code same,
+              ne-eqb code 0x01 other,
+            )
+
+-- the same of a reply put together
+module _ (identifier code : ℕ) («data» : List ℕ) (asks : Command) where
+  pub sign-read : readAs identifier code (identifier ∷ sign ∷ «data») asks ≡ signRead asks «data»
+  sign-read =
+      reads-sign identifier code (identifier ∷ sign ∷ «data») asks (λ e. absurd (omega (arith, e))) refl (λ e. absurd (omega (arith, e))) refl
+
+  pub data-read : eqb code sign ≡ false → eqb code 0x01 ≡ false
+      → readAs identifier code (identifier ∷ code ∷ «data») asks ≡ dataRead asks «data»
+  data-read plain other =
+      reads-data identifier code (identifier ∷ code ∷ «data») asks (λ e. absurd (omega (arith, e))) refl (λ e. absurd (omega (arith, e)))
+      (eqb-false code sign plain) refl (eqb-false code 0x01 other)
+
+-- ---- the rows: only then, and when
+
+module _ (identifier code : ℕ) («data» reply : List ℕ) where
+  pub by-table : ByTable identifier code «data» reply (replyRead identifier code «data» reply)
+  unfolding replyRead readAs signRead reasonRead dataRead
+  by-table = of (acceptance code «data») refl
+    where
+      P : Outcome → Type 0
+      P = ByTable identifier code «data» reply
+
+      of : (k : Acceptance) → acceptance code «data» ≡ k → P (readBy identifier code reply k)
+      of (Refused fault) asked = request (ap isAccepted asked)
+      of (Accepted c) asked =
+          cond-elim P (wrongId identifier reply) (identity asked)
+          (λ own. cond-elim P (wrongCommand code reply) (otherCommand asked own)
+          (λ right. let heeded : Heeded identifier code «data» reply c = (asked, own, right) in
+          cond-elim P (isSign reply)
+          (λ mark. cond-elim P (eqb (length (replyData reply)) 1)
+          (λ one. let signed : Signed identifier code «data» reply c = (heeded, (mark, one)) in
+          cond-elim P (eqb (reason reply) 0x55) (λ is. cond-elim P (isWrite c) (ack signed is) (ackDue signed is))
+          (λ not. cond-elim P (isNack (reason reply)) (nack signed not) (noReason signed not)))
+          (signLength heeded mark))
+          (λ plain. cond-elim P (isDue c (length (replyData reply))) (bytes heeded plain) (dataLength heeded plain))))
+
+  pub table-only : {o : Outcome} → ByTable identifier code «data» reply o → o ≡ replyRead identifier code «data» reply
+  unfolding replyRead readAs signRead reasonRead dataRead
+  table-only (request bad) = of (acceptance code «data») bad
+    where
+      of : (k : Acceptance) → isAccepted k ≡ false → refusing BadRequest ≡ readBy identifier code reply k
+      of (Refused fault) none = refl
+      of (Accepted c) none = absurd (true≢false none)
+  table-only (identity asked other) = rw (asked, other)
+  table-only (otherCommand asked own wrong) = rw (asked, own, wrong)
+  table-only (signLength (asked, own, right) mark long) = rw (asked, own, right, mark, long)
+  table-only (dataLength (asked, own, right) plain long) = rw (asked, own, right, plain, long)
+  table-only (ackDue ((asked, own, right), (mark, one)) is due) = rw (asked, own, right, mark, one, is, due)
+  table-only (noReason ((asked, own, right), (mark, one)) not other) = rw (asked, own, right, mark, one, not, other)
+  table-only (ack ((asked, own, right), (mark, one)) is write) = rw (asked, own, right, mark, one, is, write)
+  table-only (nack ((asked, own, right), (mark, one)) not some) = rw (asked, own, right, mark, one, not, some)
+  table-only (bytes (asked, own, right) plain due) = rw (asked, own, right, plain, due)

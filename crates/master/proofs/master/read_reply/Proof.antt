@@ -1,0 +1,44 @@
+-- `master::read_reply` meets its contract.
+-- Assumes nothing.
+use mathlib.Core.Path.{sym, _∙_}
+use borrow.Author.Needs.{needs}
+use Rattle.master.specs.Reading.{replyRead}
+use Rattle.master.proofs.master.read_reply.Statement.{statement}
+use Rattle.master.proofs.master.read_reply.Tie as tie
+
+accept-requires : tie.Need-accept-requires
+accept-requires c κs = search needs
+
+enum-known-acceptance : tie.Need-enum-known-acceptance
+enum-known-acceptance c = search needs
+
+read-as-requires : tie.Need-read-as-requires
+read-as-requires c κs = search needs
+
+enum-told : tie.Need-enum-told
+enum-told c = search needs
+
+refused-requires : tie.Need-refused-requires
+refused-requires c κs = search needs
+
+returns : tie.Need-returns
+unfolding replyRead
+returns c =
+    rw (sym (c .before .before .before .before .accept .ensures) ∙ c .before .before .acceptance .given .1) (c .read-as .ensures)
+
+returns-2 : tie.Need-returns-2
+unfolding replyRead
+returns-2 c =
+    rw (c .refused .ensures, sym (c .before .before .before .accept .ensures) ∙ c .before .enum-told .given .1)
+
+pub read-reply-spec : {M : Type 1} → statement M
+read-reply-spec =
+    tie.close
+    (tie.spec
+    accept-requires
+    enum-known-acceptance
+    read-as-requires
+    enum-told
+    refused-requires
+    returns
+    returns-2)

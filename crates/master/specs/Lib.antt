@@ -1,0 +1,5 @@
+-- What a reader of this library must believe: what the master reads in a reply, and what each call does.
+-- Read Reading beside document 01, 'Master's side'; Examples beside 'Bench examples'.
+-- Commands, the data that they accept and replies are those of `request`.
+pub mod Reading
+pub mod Examples

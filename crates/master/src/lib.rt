@@ -1,0 +1,2 @@
+// The point line's master: its reading of the replies to typed requests.
+pub mod master;

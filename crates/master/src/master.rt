@@ -1,0 +1,161 @@
+// The master's reading of a reply.
+use ground::refusal::Refusal;
+use request::card::is_code;
+use request::command::Acceptance;
+use request::command::Command;
+use request::command::accept;
+use request::header::HEADER_LENGTH;
+use request::parameter::length_of;
+use request::sign::ACK;
+use request::sign::SIGN;
+ghost use mathlib.Core.Path.{_≡_};
+ghost use Rattle.master.specs.Reading.{replyData, telling, readingOf, isWrite, isNack, isDue, dataRead, signRead, readAs, replyRead};
+
+const MOST_NACK: u8 = 6;
+
+// What a reply says; none where the call refused. Its data is what `data_of` hands back.
+pub enum Meaning {
+    None,
+    Ack,
+    Nack(u8),
+    Data,
+}
+
+pub struct Reading {
+    pub refusal: Refusal,
+    pub meaning: Meaning,
+}
+
+// Reads the reply to a request: its content, the check cut off. Refuses a request that a reader does not accept (BadRequest), a reply
+// with another identifier or none (WrongId), with another command or none (WrongCommand), with data of another length (WrongLength),
+// and a sign that is no answer to this request (WrongReason), in this order.
+pub fn read_reply(identifier: u8, code: u8, data: &[u8], reply: &[u8]) -> Reading
+    ensures { λ r. ⌜ telling (replyData (now (reply .entry))) r ≡ replyRead identifier code (now («data» .entry)) (now (reply .entry)) ⌝ }
+{
+    let acceptance = accept(code, data);
+    match acceptance {
+        Acceptance::Accepted(command) => read_as(identifier, code, command, reply),
+        Acceptance::Refused(_) => Reading::refused(Refusal::BadRequest),
+    }
+}
+
+// The reply to this command.
+fn read_as(identifier: u8, code: u8, command: Command, reply: &[u8]) -> Reading
+    ensures { λ r. ⌜ telling (replyData (now (reply .entry))) r ≡ readAs identifier code (now (reply .entry)) command ⌝ }
+{
+    if reply.len() == 0 {
+        return Reading::refused(Refusal::WrongId);
+    }
+    if reply[0] != identifier {
+        return Reading::refused(Refusal::WrongId);
+    }
+    if reply.len() == 1 {
+        return Reading::refused(Refusal::WrongCommand);
+    }
+    if reply[1] == SIGN {
+        return read_sign(command, &reply[2..]);
+    }
+    if reply[1] != code {
+        return Reading::refused(Refusal::WrongCommand);
+    }
+    if code == 0x01 {
+        return Reading::refused(Refusal::WrongCommand);
+    }
+    read_data(command, &reply[2..])
+}
+
+// The data of a reply: what stands behind its identifier and command.
+pub fn data_of(content: &[u8]) -> &[u8]
+    ensures { λ r. ⌜ now r ≡ replyData (now (content .entry)) ⌝ }
+{
+    if content.len() < 2 {
+        return &content[..0];
+    }
+    &content[2..]
+}
+
+// An ACK or a NACK, with this data.
+fn read_sign(command: Command, data: &[u8]) -> Reading
+    ensures { λ r. ⌜ telling (now («data» .entry)) r ≡ signRead command (now («data» .entry)) ⌝ }
+{
+    if data.len() != 1 {
+        return Reading::refused(Refusal::WrongLength);
+    }
+    let reason = data[0];
+    if reason == ACK {
+        if is_write(command) {
+            return Reading::of(Meaning::Ack);
+        }
+        return Reading::refused(Refusal::WrongReason);
+    }
+    if is_nack(reason) {
+        Reading::of(Meaning::Nack(reason))
+    } else {
+        Reading::refused(Refusal::WrongReason)
+    }
+}
+
+// Whether ACK answers the command.
+fn is_write(command: Command) -> bool
+    ensures { λ r. ⌜ r ≡ isWrite command ⌝ }
+{
+    match command {
+        Command::Header => false,
+        Command::Write(_) => true,
+        Command::Read(_) => false,
+        Command::Card(_) => false,
+    }
+}
+
+// Whether a NACK may have this number.
+fn is_nack(reason: u8) -> bool
+    ensures { λ r. ⌜ r ≡ isNack reason ⌝ }
+{
+    if reason == 0 {
+        return false;
+    }
+    reason <= MOST_NACK
+}
+
+// The request's own command, with this data.
+fn read_data(command: Command, data: &[u8]) -> Reading
+    ensures { λ r. ⌜ telling (now («data» .entry)) r ≡ dataRead command (now («data» .entry)) ⌝ }
+{
+    if is_due(command, data.len()) {
+        Reading::of(Meaning::Data)
+    } else {
+        Reading::refused(Refusal::WrongLength)
+    }
+}
+
+// Whether a command may be answered with so many bytes.
+fn is_due(command: Command, length: usize) -> bool
+    ensures { λ r. ⌜ r ≡ isDue command length ⌝ }
+{
+    match command {
+        Command::Header => length == HEADER_LENGTH,
+        Command::Write(_) => false,
+        Command::Read(parameter) => length == length_of(parameter),
+        Command::Card(card) => is_code(card, length),
+    }
+}
+
+impl Reading {
+    fn of(meaning: Meaning) -> Reading
+        ensures { λ r. ⌜ r ≡ readingOf Refusal.None meaning ⌝ }
+    {
+        Reading {
+            refusal: Refusal::None,
+            meaning,
+        }
+    }
+
+    fn refused(refusal: Refusal) -> Reading
+        ensures { λ r. ⌜ r ≡ readingOf refusal Meaning.None ⌝ }
+    {
+        Reading {
+            refusal,
+            meaning: Meaning::None,
+        }
+    }
+}

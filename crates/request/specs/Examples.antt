@@ -1,0 +1,55 @@
+-- Worked examples of acceptance, the typed writer and the header, as rows of one table. The claim is that each holds; `proofs/Laws/Examples`
+-- proves it. 01, Bench examples, The point reader and Mistakes that come easily. Assumes nothing.
+use Prim.Native.Nat.{ℕ}
+use mathlib.Core.Path.{_≡_}
+use mathlib.Core.Bool.{true, Bool, false}
+use mathlib.Core.List.{List, [], _∷_, _++_}
+use lib.ListN.{replicate}
+use Rattle.ground.specs.declared.refusal.Refusal.the-variants.{BadRequest}
+use Rattle.wire.specs.Writing.{refusing}
+use Rattle.request.specs.declared.card.Card.{Card}
+use Rattle.request.specs.declared.card.Card.the-variants.{Motorola}
+use Rattle.request.specs.Acceptance.{acceptance, isAccepted}
+use Rattle.request.specs.Requesting.{requestWritten}
+use Rattle.request.specs.Header.{header}
+use Rattle.request.specs.Cards.{isCode}
+
+pub data Example : Type 0 where
+  -- a reader accepts this code and data
+  accepts : (code : ℕ) («data» : List ℕ) → Example
+  -- the writer of requests refuses this, whatever the room
+  badRequest : (identifier code : ℕ) («data» out : List ℕ) → Example
+  -- a card's code may have so many bytes, or not
+  codes : (card : Card) (count : ℕ) (is : Bool) → Example
+  -- a device's name and numbers laid out
+  lays : (name : List ℕ) (kind version protocol serial flags : ℕ) (printed : List ℕ) → Example
+
+abbrev pub Holds : Example → Type 0
+Holds (accepts code «data») = isAccepted (acceptance code «data») ≡ true
+Holds (badRequest identifier code «data» out) = requestWritten identifier code «data» out ≡ refusing BadRequest out
+Holds (codes card count is) = isCode card count ≡ is
+Holds (lays name kind version protocol serial flags printed) = header name kind version protocol serial flags ≡ printed
+
+abbrev pub EachHolds : List Example → Type 0
+EachHolds [] = Unit {0}
+EachHolds (e ∷ es) = Holds e × EachHolds es
+
+abbrev pub examples : List Example
+examples =
+    -- speeds 2, 3, 10, 11; BadRequest before NoRoom
+    badRequest 0x00 0x01 (0x02 ∷ 2 ∷ []) []
+    ∷ accepts 0x01 (0x02 ∷ 3 ∷ [])
+    ∷ accepts 0x01 (0x02 ∷ 10 ∷ [])
+    ∷ badRequest 0x00 0x01 (0x02 ∷ 11 ∷ []) []
+    -- a value, a parameter that exists, a code that does not
+    ∷ accepts 0x01 (0x05 ∷ 1 ∷ 2 ∷ 3 ∷ 4 ∷ [])
+    ∷ accepts 0x02 (0x80 ∷ [])
+    ∷ badRequest 0x00 0x03 [] []
+    -- 4, 5 and 6 bytes of a Motorola card
+    ∷ codes Motorola 4 false
+    ∷ codes Motorola 5 true
+    ∷ codes Motorola 6 false
+    -- numbers low byte first, each in its place
+    ∷ lays (replicate 20 0x41) 1 2 3 0x12345678 0xFFFFFFFE
+    (replicate 20 0x41 ++ (1 ∷ 0 ∷ 0 ∷ 0 ∷ 2 ∷ 0 ∷ 0 ∷ 0 ∷ 3 ∷ 0 ∷ 0 ∷ 0 ∷ 0x78 ∷ 0x56 ∷ 0x34 ∷ 0x12 ∷ 0xFE ∷ 0xFF ∷ 0xFF ∷ 0xFF ∷ []))
+    ∷ []

@@ -1,0 +1,29 @@
+-- What a reply says, and the content that says it.
+-- 01, The point reader, the table and the paragraph below it; 001, 'Кадры ответа ACK/NACK'. Assumes nothing.
+use Prim.Native.Nat.{ℕ}
+use mathlib.Core.List.{List, [], _∷_}
+
+-- ACK, NACK with its number, or data
+pub data Reply : Type 0 where
+  ACK : Reply
+  NACK : ℕ → Reply
+  DATA : List ℕ → Reply
+
+-- ACK and NACK frames carry 2A in place of the command
+abbrev pub sign : ℕ
+sign = 0x2A
+
+abbrev pub commandIn : ℕ → Reply → ℕ
+commandIn code ACK = sign
+commandIn code (NACK n) = sign
+commandIn code (DATA bytes) = code
+
+-- and one byte: 55 for ACK, else the NACK number
+abbrev pub dataIn : Reply → List ℕ
+dataIn ACK = 0x55 ∷ []
+dataIn (NACK n) = n ∷ []
+dataIn (DATA bytes) = bytes
+
+-- the content without check of the reply to a request with this identifier and code
+abbrev pub frontOf : ℕ → ℕ → Reply → List ℕ
+frontOf identifier code reply = identifier ∷ commandIn code reply ∷ dataIn reply

@@ -1,0 +1,165 @@
+-- A receiver's turn follows the table of its rules, and the table leaves no other turn.
+-- Assumes nothing.
+use mathlib.Core.Path.{_≡_, refl, _∙_}
+use mathlib.Core.Bool.{Bool, true, false}
+use Prim.Native.Nat.{ℕ, zero, suc, _-_, _≤_, _<_}
+use native.Mathlib.Omega.{arith}
+use lib.Dec.{eqb, ltb, leb, lit≤, eqb·suc-zero}
+use borrow.Author.Tests.{eqb-true, eqb-false, leb-true, leb-false, ltb-true, ltb-false, lt-ltb, le-ltb, le-leb, lt-leb, ne-eqb}
+use Rattle.ground.proofs.Laws.Choice.{cond-elim}
+use Rattle.wire.specs.Limits.{mostContent}
+use Rattle.wire.specs.Stuffing.{special}
+use Rattle.wire.specs.Image.{start, stop}
+use Rattle.wire.proofs.Laws.Stuffing.{plain-ne}
+use Rattle.station.specs.declared.event.Event.the-variants.{Long, Addr}
+use Rattle.station.specs.declared.line.Line.{Line}
+use Rattle.station.specs.declared.line.Line.the-variants.{Point, Addressed}
+use Rattle.station.specs.declared.phase.Phase.{Phase}
+use Rattle.station.specs.declared.phase.Phase.the-variants.{Outside, Inside, Pending}
+use Rattle.station.specs.declared.turn.Turn.{Turn}
+use Rattle.station.specs.declared.turn.Turn.the-variants.{Rest, Begin, Wait, Keep, Stop, Tell}
+use Rattle.station.specs.Address.{takes}
+use Rattle.station.specs.Turning.{kept, plain as plainTurn, partner, contentByte, inside, within, turn}
+use Rattle.station.specs.Rules.{Address, Later, ByRule, ignored, begins, stops, address, noAddress, waits, plain, pair, noPair, longPlain, longPair}
+
+-- behind the address the addressed line is like the point line
+later-content : (line : Line) (count b : ℕ) → Later line count → contentByte line count b ≡ plainTurn count b
+unfolding contentByte
+later-content Point count b later = refl
+later-content (Addressed station) zero b later = absurd later
+later-content (Addressed station) (suc count) b later = rw (eqb·suc-zero count)
+
+-- ---- a turn follows the table
+
+module _ (line : Line) (count b : ℕ) where
+  -- a byte is kept if there is room for it
+  kept-rule : {phase : Phase} (x : ℕ)
+      → (count < mostContent → ByRule line count b phase (Keep x))
+      → (mostContent ≤ count → ByRule line count b phase (Tell Long))
+      → ByRule line count b phase (kept count x)
+  unfolding kept
+  kept-rule {phase} x f g =
+      cond-elim (ByRule line count b phase) (ltb count mostContent) (λ t. f (ltb-true count mostContent t))
+      (λ t. g (ltb-false count mostContent t))
+
+  plain-rule : Later line count → eqb b start ≡ false → eqb b stop ≡ false → ByRule line count b Inside (plainTurn count b)
+  unfolding plainTurn
+  plain-rule later f g =
+      cond-elim (ByRule line count b Inside) (eqb b 0xFF) (λ t. waits later (eqb-true b 0xFF t))
+      (λ h. let other : special b ≡ false = rw (f, g, h) in
+      kept-rule b (plain later other) (longPlain later other))
+
+  partner-rule : eqb b start ≡ false → ByRule line count b Pending (partner count b)
+  unfolding partner
+  partner-rule f =
+      cond-elim (ByRule line count b Pending) (leb b 0x02)
+      (λ t. let known = leb-true b 0x02 t in
+      kept-rule (0xFF - b) (pair known) (longPair known))
+      (λ g. noPair (leb-false b 0x02 g) (eqb-false b start f))
+
+content-rule : (line : Line) (count b : ℕ) → eqb b start ≡ false → eqb b stop ≡ false → ByRule line count b Inside (contentByte line count b)
+unfolding contentByte kept
+content-rule Point count b f g = plain-rule Point count b tt f g
+content-rule (Addressed station) zero b f g =
+    cond-elim (ByRule (Addressed station) zero b Inside) (takes station b)
+    (λ t. address (eqb-false b start f, eqb-false b stop g, t))
+    (λ t. noAddress (eqb-false b start f, eqb-false b stop g, t))
+content-rule (Addressed station) (suc count) b f g =
+    rw (later-content (Addressed station) (suc count) b tt) (plain-rule (Addressed station) (suc count) b tt f g)
+
+within-rule : (line : Line) (phase : Phase) (count b : ℕ) → eqb b start ≡ false → ByRule line count b phase (within line phase count b)
+unfolding within inside
+within-rule line Outside count b f = ignored (eqb-false b start f)
+within-rule line Inside count b f =
+    cond-elim (ByRule line count b Inside) (eqb b stop) (λ t. stops (eqb-true b stop t)) (content-rule line count b f)
+within-rule line Pending count b f = partner-rule line count b f
+
+pub turn-rule : (line : Line) (phase : Phase) (count b : ℕ) → ByRule line count b phase (turn line phase count b)
+unfolding turn
+turn-rule line phase count b =
+    cond-elim (ByRule line count b phase) (eqb b start) (λ t. begins (eqb-true b start t)) (within-rule line phase count b)
+
+-- ---- and the table leaves no other
+
+kept-is : (count b : ℕ) → count < mostContent → Keep b ≡ kept count b
+unfolding kept
+kept-is count b room = rw (lt-ltb count mostContent room)
+
+long-is : (count b : ℕ) → mostContent ≤ count → Tell Long ≡ kept count b
+unfolding kept
+long-is count b full = rw (le-ltb count mostContent full)
+
+address-is : (line : Line) (count b : ℕ) → Address line count b true → Keep b ≡ contentByte line count b
+unfolding contentByte kept
+address-is Point count b a = absurd a
+address-is (Addressed station) zero b a = rw (a .2)
+address-is (Addressed station) (suc count) b a = absurd a
+
+noAddress-is : (line : Line) (count b : ℕ) → Address line count b false → Tell Addr ≡ contentByte line count b
+unfolding contentByte
+noAddress-is Point count b a = absurd a
+noAddress-is (Addressed station) zero b a = rw (a .2)
+noAddress-is (Addressed station) (suc count) b a = absurd a
+
+neither : (line : Line) (count b : ℕ) (taken : Bool) → Address line count b taken → (eqb b start ≡ false) × (eqb b stop ≡ false)
+neither Point count b taken a = absurd a
+neither (Addressed station) zero b taken a = (ne-eqb b start (a .0), ne-eqb b stop (a .1))
+neither (Addressed station) (suc count) b taken a = absurd a
+
+plain-turn : (line : Line) (count b : ℕ) → Later line count → special b ≡ false → kept count b ≡ turn line Inside count b
+unfolding turn within inside plainTurn
+plain-turn line count b later other =
+    rw (plain-ne b start other refl, plain-ne b stop other refl, later-content line count b later, plain-ne b 0xFF other refl)
+
+pair-turn : (line : Line) (count b : ℕ) → b ≤ 0x02 → kept count (0xFF - b) ≡ turn line Pending count b
+unfolding turn within partner
+pair-turn line count b known = rw (ne-eqb b start (omega arith), le-leb b 0x02 known)
+
+pub rule-only : {line : Line} {count b : ℕ} {phase : Phase} {t : Turn} → ByRule line count b phase t → t ≡ turn line phase count b
+unfolding turn within inside plainTurn partner
+rule-only {b} (ignored f) = rw (ne-eqb b start f)
+rule-only (begins e) = rw e
+rule-only (stops e) = rw e
+rule-only {line} {count} {b} (address a) =
+    let n = neither line count b true a in
+    rw (n .0, n .1) (address-is line count b a)
+rule-only {line} {count} {b} (noAddress a) =
+    let n = neither line count b false a in
+    rw (n .0, n .1) (noAddress-is line count b a)
+rule-only {line} {count} (waits later e) = rw (e, later-content line count 0xFF later)
+rule-only {line} {count} {b} (plain later other room) = kept-is count b room ∙ plain-turn line count b later other
+rule-only {line} {count} {b} (pair known room) = kept-is count (0xFF - b) room ∙ pair-turn line count b known
+rule-only {b} (noPair over f) = rw (ne-eqb b start f, lt-leb b 0x02 over)
+rule-only {line} {count} {b} (longPlain later other full) = long-is count b full ∙ plain-turn line count b later other
+rule-only {line} {count} {b} (longPair known full) = long-is count (0xFF - b) full ∙ pair-turn line count b known
+
+-- ---- room for a byte that is kept
+
+abbrev pub Room : ℕ → Turn → Type 0
+Room count Rest = Unit {0}
+Room count Begin = Unit {0}
+Room count Wait = Unit {0}
+Room count (Keep b) = count < mostContent
+Room count Stop = Unit {0}
+Room count (Tell why) = Unit {0}
+
+pub address-room : (line : Line) (count b : ℕ) → Address line count b true → count < mostContent
+address-room Point count b a = absurd a
+address-room (Addressed station) zero b a = lit≤ tt
+address-room (Addressed station) (suc count) b a = absurd a
+
+rule-room : {line : Line} {phase : Phase} {count b : ℕ} {t : Turn} → ByRule line count b phase t → Room count t
+rule-room (ignored f) = tt
+rule-room (begins e) = tt
+rule-room (stops e) = tt
+rule-room {line} {count} {b} (address a) = address-room line count b a
+rule-room (noAddress a) = tt
+rule-room (waits later e) = tt
+rule-room (plain later other room) = room
+rule-room (pair known room) = room
+rule-room (noPair over f) = tt
+rule-room (longPlain later other full) = tt
+rule-room (longPair known full) = tt
+
+pub turn-room : (line : Line) (phase : Phase) (count b : ℕ) → Room count (turn line phase count b)
+turn-room line phase count b = rule-room (turn-rule line phase count b)
