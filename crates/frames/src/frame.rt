@@ -35,7 +35,8 @@ fn lay_check(check: Check, content: &mut [u8], front: usize)
 }
 
 // Writes the image of the frame with this head and data to the front of `out`, and answers its length. Refuses a content over 64 bytes with
-// its check (TooLong) and `out` shorter than the image (NoRoom), in this order; a refusal leaves `out` as it was.
+// its check (TooLong) and `out` shorter than the image (NoRoom), in this order; a refusal leaves `out` as it was. What the head says is its
+// caller's matter.
 pub fn write_frame(check: Check, head: &[u8], data: &[u8], out: &mut [u8]) -> Counted
     ensures { λ r. ⌜ after r (now (out .exit)) ≡ frameWritten check (now (head .entry)) (now («data» .entry)) (now (out .entry)) ⌝ }
 {

@@ -40,7 +40,7 @@ pub fn number(refusal: Refusal) -> u8
 }
 
 impl Counted {
-    // Refused: no byte counts.
+    // With this refusal, and no byte counted.
     pub fn refused(refusal: Refusal) -> Counted
         ensures { λ r. ⌜ answered r ≡ refusedOf refusal ⌝ }
     {

@@ -34,15 +34,25 @@ letter Addressed = ascii " A "
 unfoldable pub line : ℕ → Side → List ℕ → List ℕ → List ℕ
 line number side name content = decimal number ++ (letter side ++ (name ++ (pairs content ++ ascii "\n")))
 
+-- the name of an event, and a blank
+unfoldable pub nameOf : Name → List ℕ
+nameOf NONE = []
+nameOf FRAME = ascii "FRAME "
+nameOf CHECK = ascii "CHECK "
+nameOf SHORT = ascii "SHORT "
+nameOf LONG = ascii "LONG "
+nameOf PAIR = ascii "PAIR "
+nameOf ADDR = ascii "ADDR "
+
 -- one line for an event, with its content for FRAME; none where nothing happened
 unfoldable pub eventLine : ℕ → Side → Name → List ℕ → List ℕ
 eventLine number side NONE content = []
-eventLine number side FRAME content = line number side (ascii "FRAME ") content
-eventLine number side CHECK content = line number side (ascii "CHECK ") []
-eventLine number side SHORT content = line number side (ascii "SHORT ") []
-eventLine number side LONG content = line number side (ascii "LONG ") []
-eventLine number side PAIR content = line number side (ascii "PAIR ") []
-eventLine number side ADDR content = line number side (ascii "ADDR ") []
+eventLine number side FRAME content = line number side (nameOf FRAME) content
+eventLine number side CHECK content = line number side (nameOf CHECK) []
+eventLine number side SHORT content = line number side (nameOf SHORT) []
+eventLine number side LONG content = line number side (nameOf LONG) []
+eventLine number side PAIR content = line number side (nameOf PAIR) []
+eventLine number side ADDR content = line number side (nameOf ADDR) []
 
 -- the line of what a receiver said of a byte
 abbrev pub brought : ℕ → Side → Said → List ℕ

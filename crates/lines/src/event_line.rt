@@ -19,11 +19,11 @@ ghost use Rattle.wire.specs.Limits.{mostContent};
 ghost use Rattle.station.specs.Events.{named};
 ghost use Rattle.link.specs.Receiving.{saying};
 ghost use Rattle.lines.specs.Limits.{leastRoom};
-ghost use Rattle.lines.specs.Lines.{letter as letterOf, line, putHeard};
-ghost use Rattle.lines.specs.Words.{Spells, nameOf};
+ghost use Rattle.lines.specs.Lines.{letter as letterOf, line, nameOf, putHeard};
+ghost use Rattle.lines.specs.Words.{Spells};
 
-// Puts the line of what a receiver heard into `out` from the place `at` on; none where nothing happened. Refuses content over MOST_CONTENT
-// (TooLong) and fewer than LEAST_ROOM places from `at` on (NoRoom), in this order; a refusal leaves `out` as it was.
+// Puts the line of what a receiver heard into `out` from the place `at` on; none where nothing happened. Refuses a length over MOST_CONTENT,
+// whatever the event (TooLong), and fewer than LEAST_ROOM places from `at` on (NoRoom), in this order; a refusal leaves `out` as it was.
 pub fn put_heard(number: u32, side: Side, heard: Heard, out: &mut [u8], at: usize) -> Placed
     ensures { λ r. ⌜ ended r (now (out .exit)) ≡ putHeard number side (saying heard) (now (out .entry)) at ⌝ }
 {

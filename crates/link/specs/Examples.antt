@@ -33,10 +33,6 @@ Holds (stuffs content printed) = stuffing content ≡ printed
 Holds (rightCheck check content) = isRight check content ≡ true
 Holds (hears line stream place event content) = tells 0 (received (fresh line) stream) ≡ toldAt place event content ∷ []
 
-abbrev pub EachHolds : List Example → Type 0
-EachHolds [] = Unit {0}
-EachHolds (e ∷ es) = Holds e × EachHolds es
-
 abbrev master : Line
 master = Addressed 0x00
 

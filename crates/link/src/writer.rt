@@ -14,9 +14,6 @@ ghost use Rattle.link.specs.Writers.{pointWritten, addressedWritten};
 pub fn write_point(identifier: u8, command: u8, data: &[u8], out: &mut [u8]) -> Counted
     ensures { λ r. ⌜ after r (now (out .exit)) ≡ pointWritten identifier command (now («data» .entry)) (now (out .entry)) ⌝ }
 {
-    if data.len() > MOST_DATA {
-        return Counted::refused(Refusal::TooLong);
-    }
     write_frame(Check::Fcs, &[identifier, command], data, out)
 }
 

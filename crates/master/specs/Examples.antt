@@ -16,10 +16,6 @@ abbrev pub Holds : Example → Type 0
 Holds (reads identifier code «data» reply refusal meaning) =
     replyRead identifier code «data» reply ≡ record { refusal = refusal; meaning = meaning }
 
-abbrev pub EachHolds : List Example → Type 0
-EachHolds [] = Unit {0}
-EachHolds (e ∷ es) = Holds e × EachHolds es
-
 abbrev pub examples : List Example
 examples =
     -- to a request to write the speed: ACK; no command; 01 echoed; another identifier; nothing; 2A alone; NACK 6 and 7

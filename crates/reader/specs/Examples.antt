@@ -41,10 +41,6 @@ Holds (powers memory refusal left) =
     poweredOn (being (fresh .parameters) memory) ≡ record { refusal = refusal; reader = being (fresh .parameters) left }
 Holds (parts buffer count store out printed) = sent buffer count store out ≡ printed
 
-abbrev pub EachHolds : List Example → Type 0
-EachHolds [] = Unit {0}
-EachHolds (e ∷ es) = Holds e × EachHolds es
-
 abbrev pub examples : List Example
 examples =
     -- identifier 00, command 00 is no repeat to a fresh reader; the speed read and written; a code that does not exist; a wrong check; SHORT

@@ -1,6 +1,4 @@
 -- The laws, each file with the noun that it speaks of.
-pub mod Choice
-pub mod Lists
 pub mod Parameters
 pub mod Acceptance
 pub mod Header

@@ -30,10 +30,6 @@ Holds (badRequest identifier code «data» out) = requestWritten identifier code
 Holds (codes card count is) = isCode card count ≡ is
 Holds (lays name kind version protocol serial flags printed) = header name kind version protocol serial flags ≡ printed
 
-abbrev pub EachHolds : List Example → Type 0
-EachHolds [] = Unit {0}
-EachHolds (e ∷ es) = Holds e × EachHolds es
-
 abbrev pub examples : List Example
 examples =
     -- speeds 2, 3, 10, 11; BadRequest before NoRoom

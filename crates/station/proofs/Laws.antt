@@ -2,3 +2,4 @@
 pub mod Address
 pub mod Turning
 pub mod Events
+pub mod Examples

@@ -21,10 +21,6 @@ Holds (lists tape printed) = listing tape ≡ ascii printed
 Holds (ends records tape ending) = parts records tape .ending ≡ ending
 Holds (last ending records printed) = lastLine ending records ≡ ascii printed
 
-abbrev pub EachHolds : List Example → Type 0
-EachHolds [] = Unit {0}
-EachHolds (e ∷ es) = Holds e × EachHolds es
-
 abbrev pub examples : List Example
 examples =
     lists (0x01 ∷ 0xFD ∷ 0x01 ∷ 0x00 ∷ 0x01 ∷ 0x00 ∷ 0x01 ∷ 0x47 ∷ 0x01 ∷ 0x0F ∷ 0x01 ∷ 0xFE ∷ 0x02 ∷ 0xFD ∷ 0x02 ∷ 0x00 ∷ 0x02 ∷ 0x01 ∷ 0x02 ∷ 0x2A ∷ 0x02 ∷ 0x55 ∷ 0x02 ∷ 0x80 ∷ 0x02 ∷ 0xFE ∷ [])

@@ -5,7 +5,7 @@ use mathlib.Core.List.{List, [], _∷_, _++_}
 use lib.Dec.{eqb}
 use lib.ListN.{length, take}
 use Rattle.station.specs.declared.line.Line.{Line}
-use Rattle.station.specs.declared.line.Line.the-variants as lines
+use Rattle.station.specs.declared.line.Line.the-variants as line
 use Rattle.station.specs.Events.{Name, happened}
 use Rattle.link.specs.declared.receiver.Receiver.{Receiver}
 use Rattle.link.specs.Receiving.{fresh, Said, received}
@@ -68,8 +68,8 @@ parts n (k ∷ b ∷ bs) = cond (eqb n mostRecords) (noMore FULL) (before (kind 
 
 -- the point line, or an addressed line as its master hears it
 abbrev pub lineOn : Side → Line
-lineOn Point = lines.Point
-lineOn Addressed = lines.Addressed 0x00
+lineOn Point = line.Point
+lineOn Addressed = line.Addressed 0x00
 
 abbrev pub freshReceivers : Receivers
 freshReceivers = record { point = fresh (lineOn Point); addressed = fresh (lineOn Addressed) }

@@ -16,10 +16,6 @@ abbrev pub Holds : Example → Type 0
 Holds (number n printed) = decimal n ≡ ascii printed
 Holds (bytes l printed) = pairs l ≡ ascii printed
 
-abbrev pub EachHolds : List Example → Type 0
-EachHolds [] = Unit {0}
-EachHolds (e ∷ es) = Holds e × EachHolds es
-
 abbrev pub examples : List Example
 examples =
     number 0 "0"

@@ -1,4 +1,4 @@
--- What a reader of this library must believe: how a content stands on the wire. Read Stuffing and Image beside document 01, 'Layout of a
+-- What a reader of this library must believe: how a content stands on the wire. Read Limits, Stuffing and Image beside document 01, 'Layout of a
 -- frame', and Writing beside 'Refusal numbers'.
 pub mod Limits
 pub mod Stuffing

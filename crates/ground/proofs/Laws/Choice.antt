@@ -8,6 +8,11 @@ pub cond-elim : {A : Type 0} (P : A → Type 0) (t : Bool) {x y : A} → (t ≡ 
 cond-elim P true f g = f refl
 cond-elim P false f g = g refl
 
+-- what holds of both answers, where the test gives them, holds of the test
+pub by-test : (P : Bool → Type 0) (t : Bool) → (t ≡ true → P true) → (t ≡ false → P false) → P t
+by-test P true f g = f refl
+by-test P false f g = g refl
+
 pub cond-not : {A : Type 0} (t : Bool) (x y : A) → cond (not t) x y ≡ cond t y x
 cond-not true x y = refl
 cond-not false x y = refl

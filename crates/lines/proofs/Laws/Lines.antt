@@ -20,8 +20,7 @@ use Rattle.lines.specs.declared.ends.Ending.the-variants.{End, Cut, Bad,
 use Rattle.lines.specs.declared.side.Side.{Side}
 use Rattle.lines.specs.declared.side.Side.the-variants.{Point, Addressed}
 use Rattle.lines.specs.Limits.{leastRoom}
-use Rattle.lines.specs.Lines.{headerLine, letter, line, eventLine, brought, refusing, putHeard, word, lastLine}
-use Rattle.lines.specs.Words.{nameOf}
+use Rattle.lines.specs.Lines.{headerLine, letter, line, eventLine, brought, refusing, putHeard, word, lastLine, nameOf}
 
 pub length-letter : (side : Side) → length (letter side) ≡ 3
 unfolding letter ascii
@@ -56,14 +55,14 @@ line-within n side name content few short fits =
 
 pub event-within : (n : ℕ) (side : Side) (event : Name) (content : List ℕ) → n ≤ 0xFFFFFFFF → length content ≤ mostContent
     → length (eventLine n side event content) ≤ leastRoom
-unfolding eventLine ascii
+unfolding eventLine
 event-within n side NONE content few fits = zero-le
-event-within n side FRAME content few fits = line-within n side (ascii "FRAME ") content few (omega arith) fits
-event-within n side CHECK content few fits = line-within n side (ascii "CHECK ") [] few (omega arith) zero-le
-event-within n side SHORT content few fits = line-within n side (ascii "SHORT ") [] few (omega arith) zero-le
-event-within n side LONG content few fits = line-within n side (ascii "LONG ") [] few (omega arith) zero-le
-event-within n side PAIR content few fits = line-within n side (ascii "PAIR ") [] few (omega arith) zero-le
-event-within n side ADDR content few fits = line-within n side (ascii "ADDR ") [] few (omega arith) zero-le
+event-within n side FRAME content few fits = line-within n side (nameOf FRAME) content few (length-name FRAME) fits
+event-within n side CHECK content few fits = line-within n side (nameOf CHECK) [] few (length-name CHECK) zero-le
+event-within n side SHORT content few fits = line-within n side (nameOf SHORT) [] few (length-name SHORT) zero-le
+event-within n side LONG content few fits = line-within n side (nameOf LONG) [] few (length-name LONG) zero-le
+event-within n side PAIR content few fits = line-within n side (nameOf PAIR) [] few (length-name PAIR) zero-le
+event-within n side ADDR content few fits = line-within n side (nameOf ADDR) [] few (length-name ADDR) zero-le
 
 -- and the longest last line in sixteen places
 pub last-within : (e : Ending) (n : ℕ) → n ≤ 0xFFFFFFFF → length (lastLine e n) ≤ 16
@@ -93,10 +92,10 @@ no-line n side ADDR content e = absurd (true≢false e)
 
 -- FRAME's shows the content
 pub frame-line : (n : ℕ) (side : Side) (content : List ℕ) → line n side (nameOf FRAME) content ≡ eventLine n side FRAME content
-unfolding nameOf eventLine
+unfolding eventLine
 frame-line n side content = refl
 
--- ---- rows 2 and 1 of the refusal table, in this order, and the line where neither applies
+-- ---- rows 2 and 1 of the refusal table in their sense, in this order, and the line where neither applies
 
 module _ (n : ℕ) (side : Side) (said : Said) (out : List ℕ) (at : ℕ) where
   pub refuses-long : mostContent < said .length → putHeard n side said out at ≡ refusing TooLong out at

@@ -2,7 +2,7 @@
 -- Assumes nothing.
 use mathlib.Core.Path.{_≡_, refl, sym, _∙_}
 use mathlib.Core.Bool.{Bool, true, false}
-use mathlib.Core.List.{List}
+use mathlib.Core.List.{List, [], _∷_}
 use Prim.Native.Nat.{ℕ, _≤_, _<_}
 use native.Mathlib.Omega.{arith}
 use lib.Dec.{ltb}
@@ -10,7 +10,10 @@ use lib.ListN.{length}
 use borrow.Author.Tests.{ltb-true, ltb-false, lt-ltb, le-ltb}
 use Rattle.ground.specs.declared.refusal.Refusal.the-variants.{NoRoom, TooLong, BadAddress}
 use Rattle.ground.proofs.Laws.Choice.{cond-elim}
+use Rattle.frames.specs.Frame.{frameWritten}
+use Rattle.frames.proofs.Laws.Frame.{frame-within, frame-over}
 use Rattle.link.specs.Limits.{mostData}
+use Rattle.checks.specs.declared.kind.Check.the-variants.{Fcs}
 use Rattle.wire.specs.Image.{image}
 use Rattle.wire.specs.Writing.{After, refusing, putting, imageWritten}
 use Rattle.wire.proofs.Laws.Stuffing.{plain-is}
@@ -71,6 +74,15 @@ module _ (identifier command : ℕ) («data» out : List ℕ) where
   pub point-by-table : ByTable false «data» (pointContent identifier command «data») out (pointWritten identifier command «data» out)
   unfolding pointWritten
   point-by-table = by-table false «data» (pointContent identifier command «data») out
+
+  -- a frame with this head is refused just where the data is over its limit
+  pub point-framed : frameWritten Fcs (identifier ∷ command ∷ []) «data» out ≡ pointWritten identifier command «data» out
+  unfolding written pointContent pointWritten
+  point-framed =
+      let head : List ℕ = identifier ∷ command ∷ [] in
+      cond-elim (λ (w : After). frameWritten Fcs head «data» out ≡ w) (ltb mostData (length «data»))
+      (λ t. frame-over Fcs head «data» out (omega (arith, ltb-true mostData (length «data») t)))
+      (λ f. frame-within Fcs head «data» out (omega (arith, ltb-false mostData (length «data») f)))
 
   -- data within the limit leaves only the room to be refused
   pub point-goes-on : length «data» ≤ mostData

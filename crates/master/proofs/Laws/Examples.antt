@@ -1,11 +1,12 @@
 -- Each row of the table of examples holds of the definitions: antt computes both sides.
 -- Assumes nothing.
 use mathlib.Core.Path.{refl}
+use Rattle.ground.specs.Each.{Each}
 use Rattle.request.specs.Parameters.{parameterWith, takes}
 use Rattle.request.specs.Acceptance.{acceptance}
 use Rattle.master.specs.Reading.{dataRead, reasonRead, signRead, readAs, replyRead}
-use Rattle.master.specs.Examples.{examples, EachHolds}
+use Rattle.master.specs.Examples.{Holds, examples}
 
-pub each-holds : EachHolds examples
+pub each-holds : Each Holds examples
 unfolding parameterWith takes acceptance dataRead reasonRead signRead readAs replyRead
 each-holds = (refl, (refl, (refl, (refl, (refl, (refl, (refl, (refl, (refl, (refl, (refl, (refl, (refl, (refl, (refl, (refl, (refl, tt)))))))))))))))))

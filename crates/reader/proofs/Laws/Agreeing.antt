@@ -1,7 +1,7 @@
 -- A reader's record agrees with what its calls told, and each call keeps it so and sends what is meant.
 -- Assumes nothing.
 use mathlib.Core.Path.{_≡_, refl, sym, ap, subst, subst⁻¹, _∙_}
-use mathlib.Core.Bool.{Bool, true, false, cond, true≢false}
+use mathlib.Core.Bool.{Bool, true, false, cond, true≢false, and-eq-true-iff}
 use mathlib.Core.List.{List, []}
 use mathlib.Core.Option.{Option, none, some, Option·map}
 use Prim.Native.Nat.{ℕ, _≤_}
@@ -10,6 +10,7 @@ use lib.Dec.{eqb}
 use lib.ListN.{length, getD, take, drop}
 use lib.Seq.{take-at}
 use borrow.Author.Tests.{eqb-true, le-ltb}
+use Rattle.ground.proofs.Laws.Choice.{by-test}
 use Rattle.link.specs.Limits.{mostData}
 use Rattle.request.specs.declared.parameter.Parameter.{Parameter}
 use Rattle.request.specs.declared.parameter.Parameter.the-variants.{Speed, Settings, Cell}
@@ -20,7 +21,6 @@ use Rattle.request.specs.Limits.{headerLength}
 use Rattle.request.specs.Parameters.{lengthOf, isSpeed}
 use Rattle.request.specs.Acceptance.{acceptance, nackOf, Carries}
 use Rattle.request.specs.Replies.{NACK, sign, dataIn}
-use Rattle.request.proofs.Laws.Choice.{and-both}
 use Rattle.request.proofs.Laws.Acceptance.{accepts, carries}
 use Rattle.reader.specs.declared.asking.Asking.{Asking}
 use Rattle.reader.specs.declared.asking.Asking.the-variants.{Nothing, Wrong, Right}
@@ -37,7 +37,6 @@ use Rattle.reader.specs.Replies.{wire, replyTo}
 use Rattle.reader.specs.Answering.{being, fresh, badState, Answered, Lent, sending, nacked, executed, judged, recalled, framed, stepped}
 use Rattle.reader.specs.Sending.{sent}
 use Rattle.reader.specs.Sessions.{Executed, wireOf, History, begun, forgetting, repeats, judgedNext, next, judgedReply, bytesOf, toSend, isRepeat, Kept}
-use Rattle.reader.proofs.Laws.Choice.{by-test}
 use Rattle.reader.proofs.Laws.Replies.{point-room}
 use Rattle.reader.proofs.Laws.Answering.{framed-by}
 use Rattle.reader.proofs.Laws.Sending.{sent-none, sent-out, sent-store}
@@ -211,7 +210,7 @@ module _ (alone : Bool) (s : Reader) (header antenna store out : List ℕ) (whol
       (recalledAs s header antenna store out content last)
   told-recalled content value none same a = absurd (true≢false (sym same))
   told-recalled content value (some e) same a =
-      let (i, k) = and-both (eqb (e .identifier) (getD content 0 0)) (eqb (e .code) (getD content 1 0)) same in
+      let (i, k) = and-eq-true-iff (eqb (e .identifier) (getD content 0 0)) (eqb (e .code) (getD content 1 0)) .0 same in
       let own = eqb-true (e .identifier) (getD content 0 0) i in
       let asked = eqb-true (e .code) (getD content 1 0) k in
       let within : length (wireOf e) ≤ length store = omega (arith, wire-room e (a .fits), lent .1) in

@@ -1,7 +1,7 @@
 -- What a call of the reader puts together, and its refusals.
 -- Assumes nothing.
 use mathlib.Core.Path.{_≡_, sym, ap, _∙_}
-use mathlib.Core.Bool.{Bool, true, false, _||_}
+use mathlib.Core.Bool.{Bool, true, false, _||_, and-eq-true-iff}
 use mathlib.Core.List.{List, _∷_}
 use Prim.Native.Nat.{ℕ, _≤_, _<_}
 use native.Mathlib.Omega.{arith}
@@ -9,7 +9,7 @@ use lib.Dec.{ltb}
 use lib.ListN.{length, getD, take, drop, length-append}
 use borrow.Author.Tests.{ltb-true, ltb-false, leb-true, lt-ltb, le-ltb, le-leb}
 use Rattle.ground.specs.declared.refusal.Refusal.the-variants.{None, NoRoom, TooLong, BadState, BadRequest}
-use Rattle.ground.proofs.Laws.Choice.{cond-elim, or-none}
+use Rattle.ground.proofs.Laws.Choice.{cond-elim, or-none, by-test}
 use Rattle.wire.specs.Image.{image}
 use Rattle.wire.specs.Writing.{After}
 use Rattle.station.specs.Events.{Name}
@@ -18,7 +18,6 @@ use Rattle.request.specs.declared.command.Command.{Command}
 use Rattle.request.specs.declared.command.Acceptance.{Acceptance}
 use Rattle.request.specs.Limits.{mostAntenna}
 use Rattle.request.specs.Acceptance.{acceptance}
-use Rattle.request.proofs.Laws.Choice.{and-both}
 use Rattle.reader.specs.declared.buffer.Buffer.the-variants.{Out}
 use Rattle.reader.specs.declared.memory.Memory.the-variants as Memory
 use Rattle.reader.specs.declared.memory.Memory.the-variants.{Last}
@@ -34,7 +33,6 @@ use Rattle.reader.specs.Asking.{asking}
 use Rattle.reader.specs.Memory.{find}
 use Rattle.reader.specs.Replies.{Puts, replyContent, replyTo}
 use Rattle.reader.specs.Answering.{being, badState, poweredOn, Answered, answering, answerOf, sending, refusing, executed, judged, recalled, framed, stepped, Lent, isFront, fits, heeded, answered, ByTable, state, noStore, noOut, tooLong, request, steps}
-use Rattle.reader.proofs.Laws.Choice.{by-test}
 use Rattle.reader.proofs.Laws.Replies.{puts-front}
 
 -- a frame put to out, and nothing else
@@ -96,7 +94,7 @@ module _ (s : Reader) (header antenna store out content : List ℕ) where
 
 -- a FRAME or CHECK that is not refused has an identifier and a command
 pub front-least : (content : List ℕ) → isFront content ≡ true → leastFront ≤ length content
-front-least content front = leb-true leastFront (length content) (and-both _ _ front .0)
+front-least content front = leb-true leastFront (length content) (and-eq-true-iff _ _ .0 front .0)
 
 pub front-is : (identifier code : ℕ) («data» : List ℕ) → length «data» ≤ mostData → isFront (identifier ∷ code ∷ «data») ≡ true
 front-is identifier code «data» short =

@@ -9,7 +9,7 @@ use lib.ListN.{length, getD, drop}
 use borrow.Author.Tests.{eqb-true}
 use Prim.Native.Nat.{ℕ}
 use Rattle.ground.specs.Refusals.{number}
-use Rattle.ground.proofs.Laws.Choice.{cond-elim}
+use Rattle.ground.proofs.Laws.Choice.{cond-elim, by-test}
 use Rattle.station.specs.Events.{Name, named}
 use Rattle.request.specs.declared.command.Acceptance.{Acceptance}
 use Rattle.request.specs.declared.command.Acceptance.the-variants.{Accepted, Refused}
@@ -21,7 +21,6 @@ use Rattle.reader.specs.declared.reader.Reader.{Reader}
 use Rattle.reader.specs.Asking.{asking}
 use Rattle.reader.specs.Answering.{Answered, judged, stepped, ByTable, state, noStore, noOut, tooLong, request, steps}
 use Rattle.reader.specs.Sessions.{Executed, History, repeats, judgedNext, next, executes, Kept, Session, made, powered, called, Idle, rests, heeds}
-use Rattle.reader.proofs.Laws.Choice.{by-test}
 use Rattle.reader.proofs.Laws.Answering.{by-table}
 use Rattle.reader.proofs.Laws.Agreeing.{memoryOf, Agrees, agrees-lent, recalledAs, judgedAs, framed-told, told-step}
 use Rattle.reader.proofs.Laws.Sessions.{session-agrees}

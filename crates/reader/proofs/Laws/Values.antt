@@ -8,7 +8,7 @@ use lib.Dec.{eqb}
 use lib.ListN.{length, getD, drop}
 use borrow.Author.Tests.{eqb-true, eq-eqb}
 use Rattle.ground.specs.Refusals.{number}
-use Rattle.ground.proofs.Laws.Choice.{cond-elim}
+use Rattle.ground.proofs.Laws.Choice.{cond-elim, by-test}
 use Rattle.station.specs.declared.event.Event.the-variants.{Frame}
 use Rattle.station.specs.Events.{FRAME, named}
 use Rattle.request.specs.declared.parameter.Parameter.{Parameter}
@@ -31,7 +31,6 @@ use Rattle.reader.specs.Replies.{wire, replyTo}
 use Rattle.reader.specs.Answering.{answering, answered}
 use Rattle.reader.specs.Sending.{sent}
 use Rattle.reader.specs.Sessions.{History, repeats, valuesAfter, judgedNext, next, executes, Kept, Session, powered, called, Unwritten, still, power, other}
-use Rattle.reader.proofs.Laws.Choice.{by-test}
 use Rattle.reader.proofs.Laws.Sessions.{session-sends}
 use Rattle.reader.proofs.Laws.Idle.{executes-nothing}
 

@@ -1,12 +1,13 @@
 -- Each row of the table of examples holds of the definitions: antt computes both sides.
 -- Assumes nothing.
 use mathlib.Core.Path.{refl}
+use Rattle.ground.specs.Each.{Each}
 use Rattle.request.specs.Parameters.{parameterWith, takes}
 use Rattle.request.specs.Acceptance.{acceptance}
 use Rattle.request.specs.Requesting.{requestWritten}
 use Rattle.request.specs.Header.{header}
-use Rattle.request.specs.Examples.{examples, EachHolds}
+use Rattle.request.specs.Examples.{Holds, examples}
 
-pub each-holds : EachHolds examples
+pub each-holds : Each Holds examples
 unfolding parameterWith takes acceptance requestWritten header
 each-holds = (refl, (refl, (refl, (refl, (refl, (refl, (refl, (refl, (refl, (refl, (refl, tt)))))))))))

@@ -1,7 +1,7 @@
 -- Laws of the parameters.
 -- Assumes nothing.
 use mathlib.Core.Path.{_≡_, refl, sym, ap, _∙_}
-use mathlib.Core.Bool.{true, false, true≢false}
+use mathlib.Core.Bool.{true, false, true≢false, and-eq-true-iff}
 use mathlib.Core.List.{List}
 use Prim.Native.Nat.{ℕ, _≤_, _<_}
 use native.Mathlib.Omega.{arith}
@@ -11,7 +11,6 @@ use borrow.Author.Tests.{eqb-true, eq-eqb, ne-eqb}
 use Rattle.request.specs.declared.parameter.Parameter.{Parameter}
 use Rattle.request.specs.declared.parameter.Parameter.the-variants.{Speed, Settings, Cell}
 use Rattle.request.specs.Parameters.{parameterCode, lengthOf, within, takes}
-use Rattle.request.proofs.Laws.Choice.{and-both}
 
 -- a value has 1 to 8 bytes
 pub lengthOf-least : (p : Parameter) → 0 < lengthOf p
@@ -27,11 +26,11 @@ lengthOf-most Cell = omega arith
 -- a value that a parameter takes has its length, and for the speed is 3..10
 pub takes-length : (p : Parameter) (value : List ℕ) → takes p value ≡ true → length value ≡ lengthOf p
 unfolding takes
-takes-length p value taken = eqb-true (length value) (lengthOf p) (and-both (eqb (length value) (lengthOf p)) (within p value) taken .0)
+takes-length p value taken = eqb-true (length value) (lengthOf p) (and-eq-true-iff (eqb (length value) (lengthOf p)) (within p value) .0 taken .0)
 
 pub takes-within : (p : Parameter) (value : List ℕ) → takes p value ≡ true → within p value ≡ true
 unfolding takes
-takes-within p value taken = and-both (eqb (length value) (lengthOf p)) (within p value) taken .1
+takes-within p value taken = and-eq-true-iff (eqb (length value) (lengthOf p)) (within p value) .0 taken .1
 
 pub value-length : {p q : Parameter} (value : List ℕ) → p ≡ q → takes p value ≡ true → length value ≡ lengthOf q
 value-length {p} value same taken = takes-length p value taken ∙ ap lengthOf same

@@ -1,6 +1,7 @@
 -- Each row of the table of examples holds of the definitions: antt computes both sides.
 -- Assumes nothing.
 use mathlib.Core.Path.{refl}
+use Rattle.ground.specs.Each.{Each}
 use Rattle.checks.specs.Fcs.{shiftStep, shiftSteps, byteStep, run, residue, fcs, fcsBytes}
 use Rattle.checks.specs.Sum.{total, sum}
 use Rattle.checks.specs.Check.{checkOf, withCheck, front, came, alike, isRight}
@@ -12,12 +13,12 @@ use Rattle.link.specs.Receiving.{moved, outcome, heard, received}
 use Rattle.text.specs.Ascii.{ascii}
 use Rattle.text.specs.Decimal.{spelled}
 use Rattle.text.specs.Hex.{digit, further, pairs}
-use Rattle.lines.specs.Lines.{headerLine, letter, line, eventLine, word, lastLine}
-use Rattle.tape.specs.Examples.{examples, EachHolds}
+use Rattle.lines.specs.Lines.{headerLine, letter, line, nameOf, eventLine, word, lastLine}
+use Rattle.tape.specs.Examples.{Holds, examples}
 use Rattle.tape.specs.Whole.{kind, parts, entryOf, entries, entryLines, listing}
 
-pub each-holds : EachHolds examples
+pub each-holds : Each Holds examples
 unfolding stuffed stuffing shiftStep shiftSteps byteStep run residue fcs fcsBytes total sum checkOf withCheck front came alike isRight takes kept plain
-    partner contentByte inside within turn verdict moved outcome heard received ascii spelled digit further pairs headerLine letter line eventLine word
+    partner contentByte inside within turn verdict moved outcome heard received ascii spelled digit further pairs headerLine letter line nameOf eventLine word
     lastLine kind parts entryOf entries entryLines listing
 each-holds = (refl, (refl, (refl, (refl, (refl, (refl, (refl, (refl, (refl, (refl, (refl, (refl, (refl, tt)))))))))))))

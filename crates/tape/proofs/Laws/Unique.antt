@@ -1,5 +1,5 @@
 -- A call's statement leaves no choice: two results that it allows are equal. docs/STATEMENTS.md cites this for the call on a chunk; the
--- others have those of the link.
+-- others have those of ground.
 -- Assumes nothing.
 use mathlib.Core.Path.{_≡_, ap}
 use mathlib.Core.List.{List}

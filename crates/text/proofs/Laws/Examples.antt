@@ -1,11 +1,12 @@
 -- Each row of the table of examples holds of the definitions: antt computes both sides.
 -- Assumes nothing.
 use mathlib.Core.Path.{refl}
-use Rattle.text.specs.Examples.{examples, EachHolds}
+use Rattle.ground.specs.Each.{Each}
+use Rattle.text.specs.Examples.{Holds, examples}
 use Rattle.text.specs.Ascii.{ascii}
 use Rattle.text.specs.Decimal.{spelled}
 use Rattle.text.specs.Hex.{digit, further, pairs}
 
-pub each-holds : EachHolds examples
+pub each-holds : Each Holds examples
 unfolding ascii spelled digit further pairs
 each-holds = (refl, (refl, (refl, (refl, (refl, (refl, (refl, (refl, (refl, (refl, (refl, tt)))))))))))

@@ -23,7 +23,8 @@ returns : tie.Need-returns
 returns c =
     let a = c .before .before .before .before .before .before .args in
     ap (λ (w : Answer). leaving w (a .out .now)) (c .refused .ensures)
-    ∙ sym (frame-over (a .check) (a .head .now) (a .«data» .now) (a .out .now) (omega (arith, c .before .before .check-length .ensures)))
+    ∙ sym (frame-over (a .check) (a .head .now) (a .«data» .now) (a .out .now)
+    (omega (arith, c .before .before .check-length .ensures)))
 
 sub-if2 : tie.Need-sub-if2
 sub-if2 c = search needs
@@ -35,7 +36,8 @@ returns-2 : tie.Need-returns-2
 returns-2 c =
     let a = c .before .before .before .before .before .before .before .args in
     ap (λ (w : Answer). leaving w (a .out .now)) (c .refused2 .ensures)
-    ∙ sym (frame-over (a .check) (a .head .now) (a .«data» .now) (a .out .now) (omega (arith, c .before .before .before .check-length .ensures)))
+    ∙ sym (frame-over (a .check) (a .head .now) (a .«data» .now) (a .out .now)
+    (omega (arith, c .before .before .before .check-length .ensures)))
 
 lay-frame-requires : tie.Need-lay-frame-requires
 lay-frame-requires c κs =

@@ -3,7 +3,7 @@
 use native.Mathlib.Omega.{arith}
 use borrow.Author.Needs.{needs}
 use Rattle.text.specs.Ascii.{ascii}
-use Rattle.lines.specs.Words.{nameOf}
+use Rattle.lines.specs.Lines.{nameOf}
 use Rattle.lines.proofs.event_line.name.Statement.{statement}
 use Rattle.lines.proofs.event_line.name.Tie as tie
 

@@ -19,8 +19,7 @@ use Rattle.station.specs.Events.{NONE, named}
 use Rattle.station.proofs.event.Event as event
 use Rattle.link.specs.Receiving.{saying}
 use Rattle.lines.specs.declared.side.Side.{Side}
-use Rattle.lines.specs.Lines.{line, eventLine}
-use Rattle.lines.specs.Words.{nameOf}
+use Rattle.lines.specs.Lines.{line, eventLine, nameOf}
 use Rattle.lines.proofs.Laws.Lines.{no-line, frame-line, refuses-long, refuses-room, puts-heard}
 use Rattle.lines.proofs.event_line.put_heard.Statement.{statement}
 use Rattle.lines.proofs.event_line.put_heard.Tie as tie

@@ -13,8 +13,7 @@ use Rattle.station.specs.Events.{named}
 use Rattle.text.specs.Ascii.{ascii}
 use Rattle.text.specs.Decimal.{decimal}
 use Rattle.text.specs.Hex.{pairs}
-use Rattle.lines.specs.Lines.{letter, line}
-use Rattle.lines.specs.Words.{nameOf}
+use Rattle.lines.specs.Lines.{letter, line, nameOf}
 use Rattle.lines.proofs.Laws.Lines.{length-name, line-within}
 use Rattle.lines.proofs.event_line.put_line.Statement.{statement}
 use Rattle.lines.proofs.event_line.put_line.Tie as tie

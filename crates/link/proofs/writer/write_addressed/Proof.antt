@@ -4,12 +4,12 @@ use mathlib.Core.Path.{_∙_}
 use mathlib.Core.List.{List, [], _∷_}
 use Prim.Native.Nat.{ℕ, _≤_, _<_}
 use native.Mathlib.Omega.{arith}
-use borrow.Author.Needs.{needs}
 use lib.ListN.{length}
-use Rattle.frames.proofs.Laws.Frame.{frame-within}
-use Rattle.link.specs.Limits.{mostData}
+use borrow.Author.Needs.{needs}
 use Rattle.checks.specs.declared.kind.Check.the-variants.{Sum}
 use Rattle.wire.proofs.Laws.Stuffing.{plain-is, special-is}
+use Rattle.frames.proofs.Laws.Frame.{frame-within}
+use Rattle.link.specs.Limits.{mostData}
 use Rattle.link.specs.Frame.{addressedContent}
 use Rattle.link.specs.Writers.{addressedWritten}
 use Rattle.link.proofs.Laws.Writers.{refuses-length, refuses-address, goes-on}

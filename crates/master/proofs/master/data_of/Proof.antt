@@ -4,7 +4,7 @@ use Prim.Native.Nat.{_≤_}
 use native.Mathlib.Omega.{arith}
 use lib.ListN.{length, drop-of-length-le}
 use borrow.Author.Needs.{needs}
-use Rattle.request.proofs.Laws.Lists.{take-rest}
+use Rattle.ground.proofs.Laws.Lists.{take-rest}
 use Rattle.master.proofs.master.data_of.Statement.{statement}
 use Rattle.master.proofs.master.data_of.Tie as tie
 

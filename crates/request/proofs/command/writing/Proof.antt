@@ -2,9 +2,9 @@
 -- Assumes nothing.
 use mathlib.Core.Path.{sym, ap, _∙_}
 use borrow.Author.Needs.{needs}
+use Rattle.ground.proofs.Laws.Lists.{take-rest}
 use Rattle.request.specs.Parameters.{takes}
 use Rattle.request.proofs.Laws.Acceptance.{writing-none, writing-some, writing-value}
-use Rattle.request.proofs.Laws.Lists.{take-rest}
 use Rattle.request.proofs.command.writing.Statement.{statement}
 use Rattle.request.proofs.command.writing.Tie as tie
 

@@ -2,6 +2,8 @@
 -- Assumes nothing.
 use mathlib.Core.Path.{sym, ap, _∙_}
 use borrow.Author.Needs.{needs}
+use Rattle.ground.specs.Refusals.{Answer}
+use Rattle.wire.specs.Writing.{leaving}
 use Rattle.request.specs.Acceptance.{isAccepted}
 use Rattle.request.proofs.Laws.Requesting.{request-refused, request-written}
 use Rattle.request.proofs.request.write_request.Statement.{statement}
@@ -19,6 +21,9 @@ write-point-requires c κs = search needs
 enum-told-2 : tie.Need-enum-told-2
 enum-told-2 c = search needs
 
+refused-requires : tie.Need-refused-requires
+refused-requires c κs = search needs
+
 same-length : tie.Need-same-length
 same-length c = search needs
 
@@ -31,9 +36,10 @@ returns c =
 
 returns-2 : tie.Need-returns-2
 returns-2 c =
-    let a = c .before .before .before .before .before .args in
-    sym (request-refused (a .identifier) (a .code) (a .«data» .now) (a .out .now)
-    (ap isAccepted (sym (c .before .before .accept .ensures) ∙ c .enum-told2 .given .1)))
+    let a = c .before .before .before .before .before .before .args in
+    ap (λ (w : Answer). leaving w (a .out .now)) (c .refused .ensures)
+    ∙ sym (request-refused (a .identifier) (a .code) (a .«data» .now) (a .out .now)
+    (ap isAccepted (sym (c .before .before .before .accept .ensures) ∙ c .before .enum-told2 .given .1)))
 
 pub write-request-spec : {M : Type 1} → statement M
 write-request-spec =
@@ -43,6 +49,7 @@ write-request-spec =
     enum-told
     write-point-requires
     enum-told-2
+    refused-requires
     same-length
     returns
     returns-2)

@@ -5,10 +5,10 @@ use mathlib.Core.List.{List}
 use mathlib.Core.Bool.{true}
 use Prim.Native.Nat.{ℕ}
 use borrow.Author.Needs.{needs}
+use Rattle.ground.proofs.Laws.Lists.{take-rest}
 use Rattle.request.specs.declared.command.Command.{Command}
 use Rattle.request.specs.Parameters.{takes}
 use Rattle.request.specs.Acceptance.{Carries}
-use Rattle.request.proofs.Laws.Lists.{take-rest}
 use Rattle.reader.specs.Parameters.{withValue}
 use Rattle.reader.proofs.parameters.Parameters.behind.Statement.{statement}
 use Rattle.reader.proofs.parameters.Parameters.behind.Tie as tie

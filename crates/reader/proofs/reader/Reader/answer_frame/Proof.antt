@@ -6,9 +6,9 @@ use Prim.Native.Nat.{ℕ}
 use native.Mathlib.Omega.{arith}
 use lib.ListN.{getD}
 use borrow.Author.Needs.{needs}
+use Rattle.ground.proofs.Laws.Lists.{take-rest}
 use Rattle.request.specs.Acceptance.{acceptance}
 use Rattle.request.specs.Replies.{NACK, sign}
-use Rattle.request.proofs.Laws.Lists.{take-rest}
 use Rattle.request.proofs.Laws.Acceptance.{accepts, carries}
 use Rattle.reader.specs.declared.reader.Answer.{Answer}
 use Rattle.reader.specs.Replies.{replyContent}
