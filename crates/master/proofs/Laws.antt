@@ -1,7 +1,4 @@
 -- The laws, each file with the noun that it speaks of.
 pub mod Reading
-pub mod Mastering
-pub mod Requests
-pub mod Exchange
 pub mod Unique
 pub mod Examples

@@ -36,8 +36,8 @@ use Rattle.reader.specs.Sessions.{History, repeats, Kept, Session}
 use Rattle.reader.proofs.Laws.Replies.{point-room}
 use Rattle.reader.proofs.Laws.Executing.{reply-fits}
 use Rattle.reader.proofs.Laws.Sessions.{session-agrees, session-sends}
 use Rattle.master.specs.Reading.{accepting, replyRead}
-use Rattle.master.proofs.Laws.Mastering.{reads-nack, master-reads}
+use Rattle.exchange.proofs.Laws.Mastering.{reads-nack, master-reads}
 
 -- the image of a reply that fits a frame, put anywhere into any stream, is heard there
 module _ (identifier code : ℕ) (reply : Reply) (fits : length (dataIn reply) ≤ mostData) where
