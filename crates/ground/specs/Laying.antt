@@ -5,6 +5,7 @@ use mathlib.Core.Bool.{cond}
 use mathlib.Core.List.{List, _++_}
 use lib.Dec.{ltb}
 use lib.ListN.{length, take, drop}
+use Rattle.ground.specs.declared.refusal.Refusal.{Refusal}
 use Rattle.ground.specs.declared.refusal.Refusal.the-variants.{NoRoom}
 use Rattle.ground.specs.declared.laying.Placed.{Placed}
 use Rattle.ground.specs.Refusals.{number}
@@ -24,12 +25,12 @@ abbrev pub ended : Placed → List ℕ → Ended
 ended r out = record { refusal = number (r .refusal); end = r .end; out = out }
 
 -- a refused call leaves the buffer as before
-abbrev pub unplaced : List ℕ → ℕ → Ended
-unplaced out at = record { refusal = number NoRoom; end = at; out = out }
+abbrev pub unplaced : Refusal → List ℕ → ℕ → Ended
+unplaced why out at = record { refusal = number why; end = at; out = out }
 
 abbrev pub placed : List ℕ → List ℕ → ℕ → Ended
 placed bytes out at = record { refusal = 0; end = at + length bytes; out = laid out at bytes }
 
 -- fewer places from `at` on than bytes is NoRoom
 unfoldable pub put : List ℕ → List ℕ → ℕ → Ended
-put bytes out at = cond (ltb (length out - at) (length bytes)) (unplaced out at) (placed bytes out at)
+put bytes out at = cond (ltb (length out - at) (length bytes)) (unplaced NoRoom out at) (placed bytes out at)

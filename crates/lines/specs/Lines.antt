@@ -5,10 +5,8 @@ use mathlib.Core.Bool.{cond}
 use mathlib.Core.List.{List, [], _++_}
 use lib.Dec.{ltb}
 use lib.ListN.{length, take}
-use Rattle.ground.specs.declared.refusal.Refusal.{Refusal}
 use Rattle.ground.specs.declared.refusal.Refusal.the-variants.{NoRoom, TooLong}
-use Rattle.ground.specs.Refusals.{number}
-use Rattle.ground.specs.Laying.{Ended, placed}
+use Rattle.ground.specs.Laying.{Ended, unplaced, placed}
 use Rattle.wire.specs.Limits.{mostContent}
 use Rattle.station.specs.Events.{Name, NONE, FRAME, CHECK, SHORT, LONG, PAIR, ADDR}
 use Rattle.link.specs.Receiving.{Said}
@@ -58,16 +56,12 @@ eventLine number side ADDR content = line number side (nameOf ADDR) []
 abbrev pub brought : ℕ → Side → Said → List ℕ
 brought n side said = eventLine n side (said .event) (take (said .length) (said .content))
 
--- a refused call leaves the buffer as before
-abbrev pub refusing : Refusal → List ℕ → ℕ → Ended
-refusing why out at = record { refusal = number why; end = at; out = out }
-
 -- in the sense of row 2: more content than a frame may have is TooLong; in the sense of row 1: fewer places from `at` on than the least room
 -- is NoRoom. Order: 2, 1, as the frame writers'
 unfoldable pub putHeard : ℕ → Side → Said → List ℕ → ℕ → Ended
 putHeard n side said out at =
-    cond (ltb mostContent (said .length)) (refusing TooLong out at)
-    (cond (ltb (length out - at) leastRoom) (refusing NoRoom out at) (placed (brought n side said) out at))
+    cond (ltb mostContent (said .length)) (unplaced TooLong out at)
+    (cond (ltb (length out - at) leastRoom) (unplaced NoRoom out at) (placed (brought n side said) out at))
 
 -- `end`, `cut`, `bad` or `full`, with the number of whole records
 unfoldable pub word : Ending → List ℕ

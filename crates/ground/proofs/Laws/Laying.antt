@@ -11,6 +11,7 @@ use lib.Seq.{take-at, drop-drop, length-take-le, set-split, take-all, drop-appen
 use borrow.Author.Tests.{lt-ltb, le-ltb, ltb-false}
 use lib.Dec.{ltb}
 use borrow.Rule.Slice.PartMut.{putMid, midOf}
+use Rattle.ground.specs.declared.refusal.Refusal.the-variants.{NoRoom}
 use Rattle.ground.specs.declared.laying.Placed.{Placed}
 use Rattle.ground.specs.Laying.{laid, Ended, ended, unplaced, placed, put}
 use Rattle.ground.proofs.Laws.Choice.{cond-elim}
@@ -84,7 +85,7 @@ laid-part l at x h =
 
 -- ---- bytes put where there is room, and where there is none
 
-pub put-refused : (bytes out : List ℕ) (at : ℕ) → length out - at < length bytes → put bytes out at ≡ unplaced out at
+pub put-refused : (bytes out : List ℕ) (at : ℕ) → length out - at < length bytes → put bytes out at ≡ unplaced NoRoom out at
 unfolding put
 put-refused bytes out at h = simp (lt-ltb (length out - at) (length bytes) h)
 

@@ -8,7 +8,7 @@ use native.Mathlib.Omega.{arith}
 use borrow.Author.Tests.{lt-ltb, le-ltb}
 use lib.ListN.{length, length-append}
 use Rattle.ground.specs.declared.refusal.Refusal.the-variants.{NoRoom, TooLong}
-use Rattle.ground.specs.Laying.{placed}
+use Rattle.ground.specs.Laying.{unplaced, placed}
 use Rattle.wire.specs.Limits.{mostContent}
 use Rattle.station.specs.Events.{Name, NONE, FRAME, CHECK, SHORT, LONG, PAIR, ADDR, happened}
 use Rattle.link.specs.Receiving.{Said}
@@ -20,7 +20,7 @@ use Rattle.lines.specs.declared.ends.Ending.the-variants.{End, Cut, Bad,
 use Rattle.lines.specs.declared.side.Side.{Side}
 use Rattle.lines.specs.declared.side.Side.the-variants.{Point, Addressed}
 use Rattle.lines.specs.Limits.{leastRoom}
-use Rattle.lines.specs.Lines.{headerLine, letter, line, eventLine, brought, refusing, putHeard, word, lastLine, nameOf}
+use Rattle.lines.specs.Lines.{headerLine, letter, line, eventLine, brought, putHeard, word, lastLine, nameOf}
 
 pub length-letter : (side : Side) → length (letter side) ≡ 3
 unfolding letter ascii
@@ -98,11 +98,11 @@ frame-line n side content = refl
 -- ---- rows 2 and 1 of the refusal table in their sense, in this order, and the line where neither applies
 
 module _ (n : ℕ) (side : Side) (said : Said) (out : List ℕ) (at : ℕ) where
-  pub refuses-long : mostContent < said .length → putHeard n side said out at ≡ refusing TooLong out at
+  pub refuses-long : mostContent < said .length → putHeard n side said out at ≡ unplaced TooLong out at
   unfolding putHeard
   refuses-long long = rw (lt-ltb mostContent (said .length) long)
 
-  pub refuses-room : said .length ≤ mostContent → length out - at < leastRoom → putHeard n side said out at ≡ refusing NoRoom out at
+  pub refuses-room : said .length ≤ mostContent → length out - at < leastRoom → putHeard n side said out at ≡ unplaced NoRoom out at
   unfolding putHeard
   refuses-room fits short = rw (le-ltb mostContent (said .length) fits, lt-ltb (length out - at) leastRoom short)
 
