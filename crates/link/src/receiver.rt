@@ -42,6 +42,12 @@ pub struct Heard {
     pub taken: usize,
 }
 
+// The first event inside a piece, and how many bytes were taken, up to and with its byte.
+struct Found {
+    verdict: Verdict,
+    taken: usize,
+}
+
 impl Receiver {
     // A fresh receiver of the point line.
     pub fn point() -> Receiver
@@ -107,7 +113,7 @@ impl Receiver {
         let mut count = self.count;
         let mut content = self.content;
         let mut taken: usize = 0;
-        let verdict = loop {
+        let found = loop {
             if taken == piece.len() {
                 let receiver = Receiver {
                     line,
@@ -131,11 +137,17 @@ impl Receiver {
                     phase = Phase::Inside;
                     count += 1;
                 }
-                Turn::Stop => break at_stop(check_on(line), &content[..count]),
-                Turn::Tell(event) => break Verdict { event, length: 0 },
+                Turn::Stop => {
+                    let verdict = at_stop(check_on(line), &content[..count]);
+                    break Found { verdict, taken };
+                }
+                Turn::Tell(event) => {
+                    let verdict = Verdict { event, length: 0 };
+                    break Found { verdict, taken };
+                }
             }
         };
-        Heard::told(Receiver::outside(line, content), verdict, taken)
+        Heard::told(Receiver::outside(line, content), found.verdict, found.taken)
     }
 }
 

@@ -13,6 +13,7 @@ use Rattle.station.specs.declared.event.Verdict.{Verdict}
 use Rattle.station.specs.Events.{verdict}
 use Rattle.station.proofs.Laws.Turning.{Room, turn-room}
 use Rattle.link.specs.declared.receiver.Receiver.{Receiver}
+use Rattle.link.specs.declared.receiver.Found.{Found}
 use Rattle.link.specs.Receiving.{being, outside, moved, outcome, answering, heard}
 use Rattle.link.proofs.Laws.Receiving.{Going, runs-out, next-byte, breaks-off}
 use Rattle.link.proofs.receiver.Receiver.hear.Statement.{statement}
@@ -141,11 +142,13 @@ returns-2 c =
     let on = answering (outside (l .before .before .before .args .self .line) (l .loop .content)) in
     let n = l .loop .taken + 1 in
     c .told2 .ensures
-    ∙ ap (λ (r : Receiver). answering r (m .match .verdict) n) (c .before .outside .ensures)
+    ∙ ap (λ (r : Receiver). answering r (m .match .found .verdict) (m .match .found .taken)) (c .before .outside .ensures)
     ∙ ⊎-elim
-    (λ w. ap (λ (v : Verdict). on v n) (w .5 ∙ w .4 .ensures ∙ ap (λ (k : Check). verdict k (take (l .loop .count) (l .loop .content))) (w .2 .ensures))
+    (λ w. ap (λ (f : Found). on (f .verdict) (f .taken)) (w .5)
+    ∙ ap (λ (v : Verdict). on v n) (w .4 .ensures ∙ ap (λ (k : Check). verdict k (take (l .loop .count) (l .loop .content))) (w .2 .ensures))
     ∙ breaks-off (l .loop .inv) (omega arith) (sym (w .1 .given .1) ∙ d .at-byte .ensures) refl)
-    (λ w. ap (λ (v : Verdict). on v n) (w .3) ∙ breaks-off (l .loop .inv) (omega arith) (sym (w .1 .given .1) ∙ d .at-byte .ensures) refl)
+    (λ w. ap (λ (f : Found). on (f .verdict) (f .taken)) (w .3)
+    ∙ breaks-off (l .loop .inv) (omega arith) (sym (w .1 .given .1) ∙ d .at-byte .ensures) refl)
     (m .match .came)
 
 pub hear-spec : {M : Type 1} → statement M
