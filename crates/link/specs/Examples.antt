@@ -1,9 +1,10 @@
--- The worked examples of document 01 that are marked P, and some more of the receiver, as rows of one table. The claim is that each
--- holds; `proofs/Laws/Examples` proves it. 01, Bench examples. Assumes nothing.
+-- The worked examples of document 01 that are marked P, and some more of the writers and the receiver, as rows of one table. The claim is
+-- that each holds; `proofs/Laws/Examples` proves it. 01, Bench examples. Assumes nothing.
 use Prim.Native.Nat.{ℕ}
 use mathlib.Core.Path.{_≡_}
 use mathlib.Core.Bool.{true}
 use mathlib.Core.List.{List, [], _∷_, _++_}
+use lib.ListN.{replicate}
 use Rattle.checks.specs.declared.kind.Check.{Check}
 use Rattle.checks.specs.declared.kind.Check.the-variants.{Fcs, Sum}
 use Rattle.checks.specs.Check.{withCheck, isRight}
@@ -13,15 +14,18 @@ use Rattle.station.specs.declared.line.Line.{Line}
 use Rattle.station.specs.declared.line.Line.the-variants.{Point, Addressed}
 use Rattle.station.specs.Events.{Name, FRAME, CHECK, SHORT, LONG, PAIR, ADDR}
 use Rattle.link.specs.Frame.{pointContent, addressedContent}
+use Rattle.link.specs.Writers.{pointWritten, addressedWritten}
 use Rattle.link.specs.Receiving.{fresh, received}
 use Rattle.link.specs.Hearing.{toldAt, tells}
-use lib.ListN.{replicate}
 
 -- an example: what is done, and what the paper prints for it
 pub data Example : Type 0 where
   pointImage : (identifier command : ℕ) («data» printed : List ℕ) → Example
   addressedImage : (address identifier command : ℕ) («data» printed : List ℕ) → Example
   stuffs : (content printed : List ℕ) → Example
+  -- what a writer answers that is lent so much room
+  pointWrites : (identifier command : ℕ) («data» : List ℕ) (room refusal count : ℕ) → Example
+  addressedWrites : (address identifier command : ℕ) («data» : List ℕ) (room refusal count : ℕ) → Example
   rightCheck : (check : Check) (content : List ℕ) → Example
   -- to a fresh receiver the stream tells this first
   hears : (line : Line) (stream : List ℕ) (place : ℕ) (event : Name) (content : List ℕ) → Example
@@ -30,6 +34,10 @@ abbrev pub Holds : Example → Type 0
 Holds (pointImage identifier command «data» printed) = image (pointContent identifier command «data») ≡ printed
 Holds (addressedImage address identifier command «data» printed) = image (addressedContent address identifier command «data») ≡ printed
 Holds (stuffs content printed) = stuffing content ≡ printed
+Holds (pointWrites identifier command «data» room refusal count) =
+    pointWritten identifier command «data» (replicate room 0) .answer ≡ record { refusal = refusal; count = count }
+Holds (addressedWrites address identifier command «data» room refusal count) =
+    addressedWritten address identifier command «data» (replicate room 0) .answer ≡ record { refusal = refusal; count = count }
 Holds (rightCheck check content) = isRight check content ≡ true
 Holds (hears line stream place event content) = tells 0 (received (fresh line) stream) ≡ toldAt place event content ∷ []
 
@@ -50,6 +58,16 @@ examples =
     ∷ addressedImage 0x01 0xEC 0x10 [] (0xFD ∷ 0x01 ∷ 0xEC ∷ 0x10 ∷ 0xFF ∷ 0x02 ∷ 0xFE ∷ [])
     -- P12: FD FE FF stuffs to FF 02 FF 01 FF 00
     ∷ stuffs (0xFD ∷ 0xFE ∷ 0xFF ∷ []) (0xFF ∷ 0x02 ∷ 0xFF ∷ 0x01 ∷ 0xFF ∷ 0x00 ∷ [])
+    -- room 6 and 5 for P1
+    ∷ pointWrites 0x00 0x00 [] 6 0 6
+    ∷ pointWrites 0x00 0x00 [] 5 1 0
+    -- data 60 and 61, on both lines; TooLong before BadAddress before NoRoom
+    ∷ pointWrites 0x00 0x10 (replicate 60 0x11) 66 0 66
+    ∷ pointWrites 0x00 0x10 (replicate 61 0x11) 66 2 0
+    ∷ addressedWrites 0x05 0x01 0x10 (replicate 60 0x11) 66 0 66
+    ∷ addressedWrites 0xFD 0x01 0x10 (replicate 61 0x11) 0 2 0
+    ∷ addressedWrites 0xFD 0x01 0x10 (replicate 60 0x11) 0 3 0
+    ∷ addressedWrites 0xFC 0x01 0x10 (replicate 60 0x11) 0 1 0
     -- P7: SHORT, though its check is right
     ∷ hears Point (0xFD ∷ 0x00 ∷ 0x00 ∷ 0xFE ∷ []) 4 SHORT []
     ∷ rightCheck Fcs (0x00 ∷ 0x00 ∷ [])

@@ -3,3 +3,4 @@ pub mod Stuffing
 pub mod Unstuffing
 pub mod Image
 pub mod Unique
+pub mod Examples

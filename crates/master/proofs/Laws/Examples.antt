@@ -1,7 +1,7 @@
 -- Each row of the table of examples holds of the definitions: antt computes both sides.
 -- Assumes nothing.
 use mathlib.Core.Path.{refl}
-use Rattle.ground.specs.Each.{Each}
+use Rattle.ground.specs.Each.{Each, none, _and_}
 use Rattle.request.specs.Parameters.{parameterWith, takes}
 use Rattle.request.specs.Acceptance.{acceptance}
 use Rattle.master.specs.Reading.{dataRead, reasonRead, signRead, readAs, replyRead}
@@ -9,4 +9,7 @@ use Rattle.master.specs.Examples.{Holds, examples}
 
 pub each-holds : Each Holds examples
 unfolding parameterWith takes acceptance dataRead reasonRead signRead readAs replyRead
-each-holds = (refl, (refl, (refl, (refl, (refl, (refl, (refl, (refl, (refl, (refl, (refl, (refl, (refl, (refl, (refl, (refl, (refl, tt)))))))))))))))))
+each-holds =
+    refl and refl and refl and refl and refl and refl and refl and refl and refl and refl and refl and refl
+    and refl and refl and refl and refl and refl
+    and none

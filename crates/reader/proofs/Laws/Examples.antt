@@ -1,7 +1,7 @@
 -- Each row of the table of examples holds of the definitions: antt computes both sides.
 -- Assumes nothing.
 use mathlib.Core.Path.{refl}
-use Rattle.ground.specs.Each.{Each}
+use Rattle.ground.specs.Each.{Each, none, _and_}
 use Rattle.request.specs.Parameters.{parameterWith, takes}
 use Rattle.request.specs.Acceptance.{acceptance}
 use Rattle.reader.specs.Replies.{replyTo}
@@ -11,4 +11,7 @@ use Rattle.reader.specs.Examples.{Holds, examples}
 
 pub each-holds : Each Holds examples
 unfolding parameterWith takes acceptance replyTo poweredOn sent
-each-holds = (refl, (refl, (refl, (refl, (refl, (refl, (refl, (refl, (refl, (refl, (refl, (refl, (refl, (refl, (refl, (refl, (refl, (refl, (refl, (refl, (refl, (refl, (refl, tt)))))))))))))))))))))))
+each-holds =
+    refl and refl and refl and refl and refl and refl and refl and refl and refl and refl and refl and refl
+    and refl and refl and refl and refl and refl and refl and refl and refl and refl and refl and refl
+    and none

@@ -1,7 +1,7 @@
 -- Each row of the table of examples holds of the definitions: antt computes both sides.
 -- Assumes nothing.
 use mathlib.Core.Path.{refl}
-use Rattle.ground.specs.Each.{Each}
+use Rattle.ground.specs.Each.{Each, none, _and_}
 use Rattle.request.specs.Parameters.{parameterWith, takes}
 use Rattle.request.specs.Acceptance.{acceptance}
 use Rattle.request.specs.Requesting.{requestWritten}
@@ -10,4 +10,4 @@ use Rattle.request.specs.Examples.{Holds, examples}
 
 pub each-holds : Each Holds examples
 unfolding parameterWith takes acceptance requestWritten header
-each-holds = (refl, (refl, (refl, (refl, (refl, (refl, (refl, (refl, (refl, (refl, (refl, tt)))))))))))
+each-holds = refl and refl and refl and refl and refl and refl and refl and refl and refl and refl and refl and none

@@ -1,7 +1,7 @@
 -- Each row of the table of examples holds of the definitions: antt computes both sides.
 -- Assumes nothing.
 use mathlib.Core.Path.{refl}
-use Rattle.ground.specs.Each.{Each}
+use Rattle.ground.specs.Each.{Each, none, _and_}
 use Rattle.checks.specs.Fcs.{shiftStep, shiftSteps, byteStep, run, residue, fcs, fcsBytes}
 use Rattle.checks.specs.Sum.{total, sum}
 use Rattle.checks.specs.Check.{checkOf, withCheck, front, came, alike, isRight}
@@ -21,4 +21,4 @@ pub each-holds : Each Holds examples
 unfolding stuffed stuffing shiftStep shiftSteps byteStep run residue fcs fcsBytes total sum checkOf withCheck front came alike isRight takes kept plain
     partner contentByte inside within turn verdict moved outcome heard received ascii spelled digit further pairs headerLine letter line nameOf eventLine word
     lastLine kind parts entryOf entries entryLines listing
-each-holds = (refl, (refl, (refl, (refl, (refl, (refl, (refl, (refl, (refl, (refl, (refl, (refl, (refl, tt)))))))))))))
+each-holds = refl and refl and refl and refl and refl and refl and refl and refl and refl and refl and refl and refl and refl and none

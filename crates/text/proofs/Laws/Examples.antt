@@ -1,7 +1,7 @@
 -- Each row of the table of examples holds of the definitions: antt computes both sides.
 -- Assumes nothing.
 use mathlib.Core.Path.{refl}
-use Rattle.ground.specs.Each.{Each}
+use Rattle.ground.specs.Each.{Each, none, _and_}
 use Rattle.text.specs.Examples.{Holds, examples}
 use Rattle.text.specs.Ascii.{ascii}
 use Rattle.text.specs.Decimal.{spelled}
@@ -9,4 +9,4 @@ use Rattle.text.specs.Hex.{digit, further, pairs}
 
 pub each-holds : Each Holds examples
 unfolding ascii spelled digit further pairs
-each-holds = (refl, (refl, (refl, (refl, (refl, (refl, (refl, (refl, (refl, (refl, (refl, tt)))))))))))
+each-holds = refl and refl and refl and refl and refl and refl and refl and refl and refl and refl and refl and none
