@@ -1,5 +1,5 @@
 -- The FCS, the point line's check of two bytes.
--- 01, Layout of a frame, 'FCS'; 001, 'FCS', whose listing X_FCS is `byteStep`. Assumes nothing.
+-- 01, Layout of a frame, 'FCS'; RFC 1331, which decides it; 001, 'FCS', whose listing X_FCS is `byteStep`. Assumes nothing.
 use Prim.Native.Nat.{ℕ, zero, suc, _*_, _/_, _%_}
 use mathlib.Core.List.{List, [], _∷_}
 use lib.Bits.{bitAnd, bitXor}

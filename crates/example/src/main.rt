@@ -1,28 +1,23 @@
 // Writes the request for a reader's device header, as it goes over the point line, and prints its bytes; then hands them to a receiver
 // and prints the content of the frame that it hears.
+use ground::laying::put;
 use libc::STDOUT_FILENO;
 use link::receiver::Receiver;
+use link::writer::write_point;
 use station::event::Event;
+use text::hex::put_pairs;
 
-// The upper-case hexadecimal digit of a number's low four bits.
-fn digit(n: u8) -> u8 {
-    let low = n % 16;
-    if low < 10 { 48 + low } else { 55 + low }
-}
-
+// Prints up to 8 bytes as hex pairs, on a line of their own.
 fn print(bytes: &[u8]) {
-    let mut i: usize = 0;
-    while i < bytes.len() {
-        let end = if i + 1 < bytes.len() { b'.' } else { b'\n' };
-        let pair = [digit(bytes[i] / 16), digit(bytes[i]), end];
-        io::write_all(STDOUT_FILENO, &pair);
-        i += 1;
-    }
+    let mut line = [0u8; 24];
+    let pairs = put_pairs(bytes, &mut line, 0);
+    let end = put(b"\n", &mut line, pairs.end).end;
+    io::write_all(STDOUT_FILENO, &line[..end]);
 }
 
 fn main() {
     let mut out = [0u8; 8];
-    let written = link::writer::write_point(0x00, 0x00, &[], &mut out);
+    let written = write_point(0x00, 0x00, &[], &mut out);
     let count = written.count;
     check::expect(count == 6);
     print(&out[..count]);

@@ -1,7 +1,8 @@
--- The cards that an antenna reads, and how many bytes the code of each has.
--- 01, The point reader, the table, and 'Master's side'. Assumes nothing.
-use Prim.Native.Nat.{ℕ}
+-- The cards that an antenna reads, how many bytes the code of each has, and the number that they stand for.
+-- 01, The point reader, the table, and 'Master's side'; Layout of a frame, of numbers. Assumes nothing.
+use Prim.Native.Nat.{ℕ, _+_, _*_}
 use mathlib.Core.Bool.{Bool, _&&_}
+use mathlib.Core.List.{List, [], _∷_}
 use lib.Dec.{eqb, leb}
 use Rattle.request.specs.declared.card.Card.{Card}
 use Rattle.request.specs.declared.card.Card.the-variants.{Marin, Hid, Motorola}
@@ -16,3 +17,12 @@ abbrev pub isCode : Card → ℕ → Bool
 isCode Marin n = isRead n
 isCode Hid n = isRead n
 isCode Motorola n = eqb n 5
+
+-- card codes go high byte first (001, 'Многобайтовые переменные'), from the antenna to the master: the number that bytes stand for, behind
+-- one that was read before them
+unfoldable pub highFirst : ℕ → List ℕ → ℕ
+highFirst before [] = before
+highFirst before (b ∷ bs) = highFirst (before * 0x100 + b) bs
+
+abbrev pub codeNumber : List ℕ → ℕ
+codeNumber code = highFirst 0 code

@@ -12,7 +12,7 @@ use Rattle.request.specs.declared.card.Card.the-variants.{Motorola}
 use Rattle.request.specs.Acceptance.{acceptance, isAccepted}
 use Rattle.request.specs.Requesting.{requestWritten}
 use Rattle.request.specs.Header.{header}
-use Rattle.request.specs.Cards.{isCode}
+use Rattle.request.specs.Cards.{isCode, codeNumber}
 
 pub data Example : Type 0 where
   -- a reader accepts this code and data
@@ -21,6 +21,8 @@ pub data Example : Type 0 where
   badRequest : (identifier code : ℕ) («data» out : List ℕ) → Example
   -- a card's code may have so many bytes, or not
   codes : (card : Card) (count : ℕ) (is : Bool) → Example
+  -- a card's code stands for this number
+  stands : (code : List ℕ) (number : ℕ) → Example
   -- a device's name and numbers laid out
   lays : (name : List ℕ) (kind version protocol serial flags : ℕ) (printed : List ℕ) → Example
 
@@ -28,6 +30,7 @@ abbrev pub Holds : Example → Type 0
 Holds (accepts code «data») = isAccepted (acceptance code «data») ≡ true
 Holds (badRequest identifier code «data» out) = requestWritten identifier code «data» out ≡ refusing BadRequest out
 Holds (codes card count is) = isCode card count ≡ is
+Holds (stands code number) = codeNumber code ≡ number
 Holds (lays name kind version protocol serial flags printed) = header name kind version protocol serial flags ≡ printed
 
 abbrev pub examples : List Example
@@ -45,6 +48,9 @@ examples =
     ∷ codes Motorola 4 false
     ∷ codes Motorola 5 true
     ∷ codes Motorola 6 false
+    -- a card's code high byte first
+    ∷ stands (0x00 ∷ 0x00 ∷ 0x01 ∷ []) 1
+    ∷ stands (0x12 ∷ 0x34 ∷ 0x56 ∷ 0x78 ∷ 0x9A ∷ []) 0x123456789A
     -- numbers low byte first, each in its place
     ∷ lays (replicate 20 0x41) 1 2 3 0x12345678 0xFFFFFFFE
     (replicate 20 0x41 ++ (1 ∷ 0 ∷ 0 ∷ 0 ∷ 2 ∷ 0 ∷ 0 ∷ 0 ∷ 3 ∷ 0 ∷ 0 ∷ 0 ∷ 0x78 ∷ 0x56 ∷ 0x34 ∷ 0x12 ∷ 0xFE ∷ 0xFF ∷ 0xFF ∷ 0xFF ∷ []))

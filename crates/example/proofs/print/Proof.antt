@@ -1,68 +1,55 @@
--- `print` meets its contract: it is safe, and ends after the last byte.
+-- `print` meets its contract: what is put into the line ends within it, refused or not.
 -- Assumes nothing.
-use Prim.Native.Nat.{_≤_, _-_}
-use lib.ListN.{length}
+use mathlib.Core.Path.{sym}
+use Prim.Native.Nat.{zero-le}
+use native.Mathlib.Omega.{arith}
 use borrow.Author.Needs.{needs}
+use lib.Seq.{length-take-le}
+use Rattle.ground.proofs.Laws.Laying.{put-ends}
 use Rattle.example.proofs.print.Statement.{statement}
 use Rattle.example.proofs.print.Tie as tie
 
-abbrev Inv-loop : tie.InvT-loop
-Inv-loop bytes i₀ i = i ≤ length bytes
+slice-aggregate-put-pairs : tie.Need-slice-aggregate-put-pairs
+slice-aggregate-put-pairs c = search needs
 
-abbrev μ-loop : tie.MeasureT-loop
-μ-loop bytes i₀ i = length bytes - i
+put-pairs-requires : tie.Need-put-pairs-requires
+put-pairs-requires c κs = search needs
 
-loop-holds : tie.Need-loop-holds Inv-loop μ-loop
-loop-holds c = search needs
+slice-aggregate-put : tie.Need-slice-aggregate-put
+slice-aggregate-put c = search needs
 
-add-if1 : tie.Need-add-if1 Inv-loop μ-loop
-add-if1 c = search needs
+slice-aggregate-put-2 : tie.Need-slice-aggregate-put-2
+slice-aggregate-put-2 c = search needs
 
-shared-slice-read-digit : tie.Need-shared-slice-read-digit Inv-loop μ-loop
-shared-slice-read-digit c = search needs
+put-requires : tie.Need-put-requires
+put-requires c κs = search needs
 
-digit-requires : tie.Need-digit-requires Inv-loop μ-loop
-digit-requires c κs = search needs
+array-share-prefix-line : tie.Need-array-share-prefix-line
+array-share-prefix-line c =
+    let w = c .before .put in
+    let first = c .before .before .before .before .before .put-pairs in
+    let begins = put-ends (first .result) _ _ _ (first .ensures) zero-le in
+    omega (arith, w .kept, put-ends (w .result) _ _ _ (w .ensures) (omega (arith, first .kept, begins)))
 
-shared-slice-read-digit-2 : tie.Need-shared-slice-read-digit-2 Inv-loop μ-loop
-shared-slice-read-digit-2 c = search needs
+slice-aggregate-write-all : tie.Need-slice-aggregate-write-all
+slice-aggregate-write-all c = sym (length-take-le _ _ (array-share-prefix-line (c .before)))
 
-digit-requires-2 : tie.Need-digit-requires-2 Inv-loop μ-loop
-digit-requires-2 c κs = search needs
-
-slice-aggregate-write-all : tie.Need-slice-aggregate-write-all Inv-loop μ-loop
-slice-aggregate-write-all c = search needs
-
-write-all-requires : tie.Need-write-all-requires Inv-loop μ-loop
+write-all-requires : tie.Need-write-all-requires
 write-all-requires c κs = search needs
 
-add-i : tie.Need-add-i Inv-loop μ-loop
-add-i c = search needs
-
-loop-less : tie.Need-loop-less Inv-loop μ-loop
-loop-less c = search needs
-
-loop-again : tie.Need-loop-again Inv-loop μ-loop
-loop-again c = search needs
-
-returns : tie.Need-returns Inv-loop μ-loop
+returns : tie.Need-returns
 returns c = search needs
 
 pub print-spec : {M : Type 1} → statement M
 print-spec =
     tie.close
     (tie.spec
-    Inv-loop
-    μ-loop
-    loop-holds
-    add-if1
-    shared-slice-read-digit
-    digit-requires
-    shared-slice-read-digit-2
-    digit-requires-2
+    slice-aggregate-put-pairs
+    put-pairs-requires
+    slice-aggregate-put
+    slice-aggregate-put-2
+    put-requires
+    array-share-prefix-line
     slice-aggregate-write-all
     write-all-requires
-    add-i
-    loop-less
-    loop-again
     returns)

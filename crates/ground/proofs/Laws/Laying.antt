@@ -105,6 +105,10 @@ put-within bytes out at begins =
     cond-elim (λ (e : Ended). e .end ≤ length out) (ltb (length out - at) (length bytes)) (λ short. begins)
     (λ roomy. omega (arith, ltb-false (length out - at) (length bytes) roomy))
 
+-- so a call that puts bytes ends within the buffer, refused or not
+pub put-ends : (r : Placed) {left : List ℕ} (bytes out : List ℕ) (at : ℕ) → ended r left ≡ put bytes out at → at ≤ length out → r .end ≤ length out
+put-ends r bytes out at says begins = rw (ap (λ (e : Ended). e .end) says) (put-within bytes out at begins)
+
 -- Calls that put one part of a text behind the other, from a place of a buffer on, and what the last of them answers and leaves.
 pub data Puts : List ℕ → ℕ → List ℕ → Ended → Type 0 where
   last : {out : List ℕ} {at : ℕ} {x : List ℕ} {e : Ended} → e ≡ put x out at → Puts out at x e
