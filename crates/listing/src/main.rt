@@ -1,4 +1,5 @@
 // Lists a tape: its bytes on standard input, the listing on standard output.
+use chunks::chunk::list;
 use libc::STDERR_FILENO;
 use libc::STDIN_FILENO;
 use libc::STDOUT_FILENO;
@@ -37,7 +38,7 @@ fn list_chunk(tape: Tape, chunk: &[u8], text: &mut [u8]) -> Progress
     let mut tape = tape;
     let mut taken: usize = 0;
     while taken < chunk.len() {
-        let listed = tape.list(&chunk[taken..], text);
+        let listed = list(tape, &chunk[taken..], text);
         tape = listed.tape;
         let written = listed.written;
         if !print(&text[..written]) {

@@ -1,7 +1,6 @@
-// A tape's bytes in, the listing's text out.
+// A tape under way, and the last line of its listing.
 pub mod ends;
 pub mod limits;
 pub mod next;
 pub mod receivers;
-mod run;
 pub mod tape;

@@ -13,7 +13,7 @@ pub enum Next {
 }
 
 // Behind a kind byte that follows so many whole records.
-pub(crate) fn behind_kind(records: u32, kind: u8) -> Next
+pub fn behind_kind(records: u32, kind: u8) -> Next
     ensures { λ r. ⌜ r ≡ behindKind records kind ⌝ }
 {
     if records == MOST_RECORDS {

@@ -25,7 +25,8 @@ impl Receivers {
         }
     }
 
-    pub(crate) fn on(self, side: Side) -> Receiver
+    // The receiver of a side.
+    pub fn on(self, side: Side) -> Receiver
         ensures { λ r. ⌜ r ≡ onSide side self ⌝ }
     {
         match side {
@@ -35,7 +36,7 @@ impl Receivers {
     }
 
     // With another receiver on a side.
-    pub(crate) fn turned(self, side: Side, receiver: Receiver) -> Receivers
+    pub fn turned(self, side: Side, receiver: Receiver) -> Receivers
         ensures { λ r. ⌜ r ≡ turnedOn side receiver self ⌝ }
     {
         match side {

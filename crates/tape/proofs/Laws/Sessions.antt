@@ -24,7 +24,7 @@ use Rattle.tape.specs.Whole.{parts, freshReceivers, entries, entryLines,
 use Rattle.tape.specs.Frames.{Shows}
 use Rattle.tape.specs.Taping.{freshTape, stepped, isOver, going, Told, refusing, writing, badTape, listed, lastOf}
 use Rattle.tape.specs.Sessions.{Written, Session, over, call, Listing, begun}
-use Rattle.tape.proofs.Laws.Chunks.{step-fine}
+use Rattle.tape.proofs.Laws.Fine.{step-fine}
 use Rattle.tape.proofs.Laws.Taping.{fresh-fine}
 use Rattle.tape.proofs.Laws.Frames.{frames-shown}
 use Rattle.tape.proofs.Laws.Remaining.{remaining, going-remains, over-remains, remaining-listed}

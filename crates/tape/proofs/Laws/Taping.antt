@@ -2,24 +2,30 @@
 -- Assumes nothing.
 use mathlib.Core.Path.{_≡_, refl, ap}
 use mathlib.Core.Bool.{true, false, _||_}
-use mathlib.Core.List.{List, [], _∷_}
-use Prim.Native.Nat.{ℕ, _-_, _≤_, _<_, zero-le}
+use mathlib.Core.List.{List, [], _∷_, _++_}
+use Prim.Native.Nat.{ℕ, _+_, _-_, _≤_, _<_, zero-le}
+use native.Mathlib.Nat.{min-le-left}
 use native.Mathlib.Omega.{arith}
 use borrow.Author.Tests.{lt-ltb, le-ltb, ltb-false, eqb-false}
 use lib.Dec.{ltb, eqb}
-use lib.ListN.{length, length-append}
+use lib.ListN.{length, take, length-append, length-take}
 use Rattle.ground.specs.declared.refusal.Refusal.the-variants.{NoRoom, BadState}
 use Rattle.ground.proofs.Laws.Choice.{cond-elim, or-none}
+use Rattle.wire.specs.Limits.{mostContent}
+use Rattle.link.specs.declared.receiver.Receiver.{Receiver}
+use Rattle.link.specs.Receiving.{received}
+use Rattle.link.proofs.Laws.Receiving.{length-within}
+use Rattle.lines.specs.declared.side.Side.{Side}
 use Rattle.lines.specs.Limits.{leastRoom}
+use Rattle.lines.specs.Lines.{brought}
+use Rattle.lines.proofs.Laws.Lines.{event-within}
 use Rattle.tape.specs.declared.next.Next.{Next}
 use Rattle.tape.specs.declared.next.Next.the-variants.{Kind, Body, Bad, Full}
 use Rattle.tape.specs.declared.tape.Tape.{Tape}
 use Rattle.tape.specs.Limits.{mostRecords}
 use Rattle.tape.specs.Whole.{on}
 use Rattle.tape.specs.Taping.{freshTape, stepAt, stepped, isOver, Went, going, Told, refusing, writing, badReceivers, badTape, listed}
-use Rattle.tape.proofs.Laws.Hearing.{brought-within}
-use Rattle.tape.proofs.Laws.Going.{going-step}
-use Rattle.tape.proofs.Laws.Chunks.{step-fine}
+use Rattle.tape.proofs.Laws.Fine.{step-fine}
 
 -- ---- rows 4 and 1 of the refusal table, in this order, and the text where neither applies
 
@@ -37,6 +43,15 @@ module _ (t : Tape) (chunk out : List ℕ) where
   lists-chunk fine roomy = rw (fine, le-ltb (length out) leastRoom roomy)
 
 -- ---- what it takes and writes has room
+
+-- the line of a call has room where the longest has
+pub brought-within : (n : ℕ) (side : Side) (s : Receiver) (piece : List ℕ) → n ≤ mostRecords
+    → length (brought n side (received s piece)) ≤ leastRoom
+brought-within n side s piece few =
+    let said = received s piece in
+    let h : length (take (said .length) (said .content)) ≤ mostContent =
+    omega (arith, length-take (said .length) (said .content), min-le-left (said .length) (length (said .content)), length-within s piece) in
+    event-within n side (said .event) (take (said .length) (said .content)) (omega arith) h
 
 -- a byte counts one record at most, and none behind the last permitted
 step-few : (next : Next) (t : Tape) (b : ℕ) → t .next ≡ next → badTape t ≡ false → t .records ≤ mostRecords
@@ -78,7 +93,18 @@ listed-within t chunk out few =
 
 -- ---- it takes something
 
--- where there is room and something further is read, a chunk that has a byte goes down
+-- behind some bytes that brought a text
+abbrev pub behindWent : ℕ → List ℕ → Went → Went
+behindWent taken text w = record { tape = w .tape; taken = taken + w .taken; text = text ++ w .text }
+
+-- one byte, where there is room and something further is read
+pub going-step : (room : ℕ) (t : Tape) (b : ℕ) (bs : List ℕ) → isOver (t .next) ≡ false → leastRoom ≤ room
+    → let s = stepped t b in
+    going room t (b ∷ bs) ≡ behindWent 1 (s .text) (going (room - length (s .text)) (s .tape) bs)
+unfolding going
+going-step room t b bs more h = rw (more, le-ltb room leastRoom h)
+
+-- so a chunk that has a byte goes down
 pub listed-some : (t : Tape) (b : ℕ) (bs out : List ℕ) → badTape t ≡ false → leastRoom ≤ length out → isOver (t .next) ≡ false
     → 0 < listed t (b ∷ bs) out .taken
 listed-some t b bs out fine roomy more =

@@ -9,10 +9,16 @@ use native.Mathlib.Omega.{arith}
 use borrow.Author.Tests.{ne-eqb, eqb-false}
 use lib.Dec.{eqb}
 use lib.ListN.{length}
+use Rattle.lines.specs.declared.side.Side.{Side}
+use Rattle.lines.specs.declared.side.Side.the-variants.{Point, Addressed}
 use Rattle.lines.specs.declared.ends.Ending.the-variants.{Full as FULL}
 use Rattle.tape.specs.Limits.{mostRecords}
-use Rattle.tape.specs.Whole.{Record, heard, Kind, known, unknown, kind, Parts, noMore, before, parts, taped}
-use Rattle.tape.proofs.Laws.Going.{kind-known}
+use Rattle.tape.specs.Whole.{Record, heard, kindOf, Kind, known, unknown, kind, Parts, noMore, before, parts, taped}
+
+pub kind-known : (side : Side) → kind (kindOf side) ≡ known side
+unfolding kind
+kind-known Point = refl
+kind-known Addressed = refl
 
 -- these records before others
 abbrev pub joined : List Record → Parts → Parts

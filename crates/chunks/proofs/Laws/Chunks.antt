@@ -1,7 +1,7 @@
 -- How the loop over a chunk goes: what is left of the chunk gives what the whole chunk gives.
 -- Assumes nothing.
 use mathlib.Core.Path.{_≡_, refl, sym, ap, ap₂, subst⁻¹, _∙_}
-use mathlib.Core.Bool.{Bool, true, false, cond, _&&_}
+use mathlib.Core.Bool.{true, false}
 use mathlib.Core.List.{List, [], _∷_, _++_}
 use Prim.Native.Nat.{ℕ, _+_, _*_, _-_, _≤_, _<_}
 use native.Mathlib.Nat.{add-zero, zero-add}
@@ -14,22 +14,19 @@ use Rattle.ground.specs.Laying.{laid}
 use Rattle.ground.proofs.Laws.Choice.{or-none}
 use Rattle.ground.proofs.Laws.Lists.{drop-next}
 use Rattle.ground.proofs.Laws.Laying.{laid-nil, laid-more, length-laid}
-use Rattle.link.specs.declared.receiver.Receiver.{Receiver}
-use Rattle.link.specs.Receiving.{badState, received}
-use Rattle.link.proofs.Laws.Receiving.{stays-good}
+use Rattle.link.specs.Receiving.{badState}
 use Rattle.lines.specs.declared.side.Side.{Side}
-use Rattle.lines.specs.declared.side.Side.the-variants.{Point, Addressed}
 use Rattle.lines.specs.Limits.{leastRoom}
-use Rattle.tape.specs.declared.next.Next.{Next}
-use Rattle.tape.specs.declared.next.Next.the-variants.{Kind, Body, Bad, Full}
+use Rattle.tape.specs.declared.next.Next.the-variants.{Kind, Body}
 use Rattle.tape.specs.declared.receivers.Receivers.{Receivers}
 use Rattle.tape.specs.declared.tape.Tape.{Tape}
 use Rattle.tape.specs.Limits.{mostRecords}
-use Rattle.tape.specs.Whole.{kindOf, kind, on, turned}
-use Rattle.tape.specs.Whole as whole
-use Rattle.tape.specs.Taping.{being, awaited, behindKind, stepAt, stepped, isOver, Went, standing, going, Told, writing, badReceivers, awaitsBody, badTape}
-use Rattle.tape.specs.Running.{linked, laced, Run, running, Left, left, Heard}
-use Rattle.tape.proofs.Laws.Going.{behindWent, going-over, going-full, going-kind, running-some, running-within, running-good, goes-on}
+use Rattle.tape.specs.Whole.{kindOf, on, turned}
+use Rattle.tape.specs.Taping.{being, behindKind, isOver, Went, standing, going, Told, writing, badReceivers, badTape}
+use Rattle.tape.proofs.Laws.Fine.{kind-fine, turned-fine, on-fine, receivers-fine, tape-fine}
+use Rattle.tape.proofs.Laws.Taping.{behindWent}
+use Rattle.chunks.specs.Running.{linked, laced, Run, running, Left, left, Heard}
+use Rattle.chunks.proofs.Laws.Going.{going-over, going-full, going-kind, running-some, running-within, running-good, goes-on}
 
 -- what a result says, over this buffer
 abbrev pub over : List ℕ → Told → Told
@@ -65,53 +62,6 @@ writing-more taken k text w out written ends =
           (text ++ w .text);
     })
     (omega arith)
-
--- ---- tapes that no row of the refusal table names
-
--- a kind byte leads to such a tape again
-kind-fine : (n k : ℕ) → (awaitsBody (behindKind n k) && eqb n mostRecords) ≡ false
-unfolding behindKind
-kind-fine n k = go (eqb n mostRecords)
-  where
-    known-none : (x : whole.Kind) → (awaitsBody (awaited x) && false) ≡ false
-    known-none (whole.known side) = refl
-    known-none whole.unknown = refl
-
-    go : (e : Bool) → (awaitsBody (cond e Full (awaited (kind k))) && e) ≡ false
-    go true = refl
-    go false = known-none (kind k)
-
-turned-fine : (side : Side) (s : Receiver) (r : Receivers) → badState s ≡ false → badReceivers r ≡ false
-    → badReceivers (turned side s r) ≡ false
-turned-fine Point s r good fine = rw (good, or-none (badState (r .point)) (badState (r .addressed)) fine .1)
-turned-fine Addressed s r good fine = rw (or-none (badState (r .point)) (badState (r .addressed)) fine .0) good
-
-on-fine : (side : Side) (r : Receivers) → badReceivers r ≡ false → badState (on side r) ≡ false
-on-fine Point r fine = or-none (badState (r .point)) (badState (r .addressed)) fine .0
-on-fine Addressed r fine = or-none (badState (r .point)) (badState (r .addressed)) fine .1
-
-receivers-fine : (t : Tape) → badTape t ≡ false → badReceivers (t .receivers) ≡ false
-receivers-fine t fine = or-none (badReceivers (t .receivers)) (awaitsBody (t .next) && eqb (t .records) mostRecords) fine .0
-
-tape-fine : (n : ℕ) (next : Next) (r : Receivers) → badReceivers r ≡ false → (awaitsBody next && eqb n mostRecords) ≡ false
-    → badTape (being n next r) ≡ false
-tape-fine n next r fine few = rw fine few
-
--- and so does every byte
-step-at-fine : (next : Next) (t : Tape) (b : ℕ) → badTape t ≡ false → badTape (stepAt next t b .tape) ≡ false
-unfolding stepAt
-step-at-fine Kind t b fine =
-    tape-fine (t .records) (behindKind (t .records) b) (t .receivers) (receivers-fine t fine) (kind-fine (t .records) b)
-step-at-fine (Body side) t b fine =
-    let r = t .receivers in
-    let good = stays-good (on side r) (b ∷ []) (on-fine side r (receivers-fine t fine)) in
-    tape-fine (t .records + 1) Kind (turned side (received (on side r) (b ∷ []) .receiver) r)
-    (turned-fine side _ r good (receivers-fine t fine)) refl
-step-at-fine Bad t b fine = fine
-step-at-fine Full t b fine = fine
-
-pub step-fine : (t : Tape) (b : ℕ) → badTape t ≡ false → badTape (stepped t b .tape) ≡ false
-step-fine t b fine = step-at-fine (t .next) t b fine
 
 length-laced : (k : ℕ) (bs : List ℕ) → length (laced k bs) ≡ 2 * length bs
 unfolding laced

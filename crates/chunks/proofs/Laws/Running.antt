@@ -19,7 +19,7 @@ use Rattle.lines.specs.declared.side.Side.{Side}
 use Rattle.lines.specs.Limits.{leastRoom}
 use Rattle.lines.specs.Lines.{eventLine, brought}
 use Rattle.lines.proofs.Laws.Lines.{no-line}
-use Rattle.tape.specs.Running.{laced, linked, Gathered, Run, running}
+use Rattle.chunks.specs.Running.{laced, linked, Gathered, Run, running}
 
 -- ---- gathering
 

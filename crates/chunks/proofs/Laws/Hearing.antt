@@ -4,33 +4,22 @@ use mathlib.Core.Path.{_≡_, sym, ap, ap₂, _∙_}
 use mathlib.Core.Bool.{false}
 use mathlib.Core.List.{List, [], _++_}
 use Prim.Native.Nat.{ℕ, _+_, _-_, _≤_, _<_}
-use native.Mathlib.Nat.{add-zero, zero-add, min-le-left}
+use native.Mathlib.Nat.{add-zero, zero-add}
 use native.Mathlib.Omega.{arith}
-use lib.ListN.{length, take, drop, length-append, length-take, length-drop, drop-of-length-le}
+use lib.ListN.{length, drop, length-append, length-drop, drop-of-length-le}
 use lib.Seq.{drop-drop}
 use Rattle.ground.specs.declared.laying.Placed.{Placed}
 use Rattle.ground.specs.Laying.{laid, Ended, ended, placed}
 use Rattle.ground.proofs.Laws.Laying.{laid-nil, laid-more, length-laid}
-use Rattle.wire.specs.Limits.{mostContent}
 use Rattle.link.specs.declared.receiver.Receiver.{Receiver}
 use Rattle.link.specs.Receiving.{Said, badState, received}
-use Rattle.link.proofs.Laws.Receiving.{received-takes, stays-good, length-within}
+use Rattle.link.proofs.Laws.Receiving.{received-takes, stays-good}
 use Rattle.lines.specs.declared.side.Side.{Side}
 use Rattle.lines.specs.Limits.{leastRoom}
-use Rattle.lines.specs.Lines.{brought}
-use Rattle.lines.proofs.Laws.Lines.{event-within}
 use Rattle.tape.specs.Limits.{mostRecords}
-use Rattle.tape.specs.Running.{Run, running, Left, leaving}
-use Rattle.tape.proofs.Laws.Running.{callText, Hears, running-full, running-piece}
-
--- the line of a call has room where the longest has
-pub brought-within : (n : ℕ) (side : Side) (s : Receiver) (piece : List ℕ) → n ≤ mostRecords
-    → length (brought n side (received s piece)) ≤ leastRoom
-brought-within n side s piece few =
-    let said = received s piece in
-    let h : length (take (said .length) (said .content)) ≤ mostContent =
-    omega (arith, length-take (said .length) (said .content), min-le-left (said .length) (length (said .content)), length-within s piece) in
-    event-within n side (said .event) (take (said .length) (said .content)) (omega arith) h
+use Rattle.tape.proofs.Laws.Taping.{brought-within}
+use Rattle.chunks.specs.Running.{Run, running, Left, leaving}
+use Rattle.chunks.proofs.Laws.Running.{callText, Hears, running-full, running-piece}
 
 -- behind some bodies whose lines end here
 abbrev pub leavingBehind : ℕ → Run → List ℕ → ℕ → Left

@@ -1,4 +1,4 @@
--- How a call goes over its chunk: byte by byte, and over bodies in a row on one line together.
+-- How a call goes over its chunk: where it stops, over a kind byte, and over bodies in a row on one line together.
 -- Assumes nothing.
 use mathlib.Core.Path.{_≡_, refl, sym, ap, ap₂, subst⁻¹, _∙_}
 use mathlib.Core.Bool.{true, false, or-true}
@@ -6,7 +6,7 @@ use mathlib.Core.List.{List, [], _∷_, _++_, append-nil, append-assoc}
 use Prim.Native.Nat.{ℕ, suc, _+_, _*_, _-_, _≤_, _<_, zero-le}
 use native.Mathlib.Decide.{decLe}
 use native.Mathlib.Omega.{arith}
-use borrow.Author.Tests.{le-ltb, lt-ltb, ne-eqb}
+use borrow.Author.Tests.{lt-ltb, ne-eqb}
 use lib.Dec.{ltb}
 use lib.ListN.{length, drop, length-append, take-append-drop}
 use Rattle.ground.proofs.Laws.Choice.{cond-elim}
@@ -17,28 +17,19 @@ use Rattle.lines.specs.declared.side.Side.{Side}
 use Rattle.lines.specs.declared.side.Side.the-variants.{Point, Addressed}
 use Rattle.lines.specs.Limits.{leastRoom}
 use Rattle.lines.specs.Lines.{brought}
 use Rattle.tape.specs.declared.next.Next.{Next}
 use Rattle.tape.specs.declared.next.Next.the-variants.{Kind, Body}
 use Rattle.tape.specs.declared.receivers.Receivers.{Receivers}
 use Rattle.tape.specs.declared.tape.Tape.{Tape}
 use Rattle.tape.specs.Limits.{mostRecords}
-use Rattle.tape.specs.Whole.{known, kindOf, kind, on, turned}
-use Rattle.tape.specs.Taping.{being, behindKind, stepAt, stepped, isOver, Went, standing, going}
-use Rattle.tape.specs.Running.{laced, Gathered, Run, running}
-use Rattle.tape.proofs.Laws.Running.{behindRun, running-step, running-full}
-use Rattle.tape.proofs.Laws.Hearing.{brought-within}
+use Rattle.tape.specs.Whole.{kindOf, on, turned}
+use Rattle.tape.specs.Taping.{being, behindKind, stepAt, isOver, Went, standing, going}
+use Rattle.tape.proofs.Laws.Whole.{kind-known}
+use Rattle.tape.proofs.Laws.Taping.{behindWent, going-step, brought-within}
+use Rattle.chunks.specs.Running.{laced, Gathered, Run, running}
+use Rattle.chunks.proofs.Laws.Running.{behindRun, running-step, running-full}
 
--- ---- one byte
-
--- behind some bytes that brought a text
-abbrev pub behindWent : ℕ → List ℕ → Went → Went
-behindWent taken text w = record { tape = w .tape; taken = taken + w .taken; text = text ++ w .text }
-
-pub going-step : (room : ℕ) (t : Tape) (b : ℕ) (bs : List ℕ) → isOver (t .next) ≡ false → leastRoom ≤ room
-    → let s = stepped t b in
-    going room t (b ∷ bs) ≡ behindWent 1 (s .text) (going (room - length (s .text)) (s .tape) bs)
-unfolding going
-going-step room t b bs more h = rw (more, le-ltb room leastRoom h)
+-- ---- where it stops, and a kind byte
 
 pub going-over : (room : ℕ) (t : Tape) (l : List ℕ) → isOver (t .next) ≡ true → going room t l ≡ standing t
 unfolding going
@@ -67,11 +58,6 @@ on-turned Addressed s r = refl
 turned-turned : (side : Side) (s u : Receiver) (r : Receivers) → turned side u (turned side s r) ≡ turned side u r
 turned-turned Point s u r = refl
 turned-turned Addressed s u r = refl
-
-pub kind-known : (side : Side) → kind (kindOf side) ≡ known side
-unfolding kind
-kind-known Point = refl
-kind-known Addressed = refl
 
 -- behind the kind of a permitted record comes its body
 body-next : (side : Side) (n : ℕ) → n < mostRecords → behindKind n (kindOf side) ≡ Body side

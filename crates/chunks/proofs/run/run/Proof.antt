@@ -7,9 +7,9 @@ use native.Mathlib.Omega.{arith}
 use borrow.Author.Needs.{needs}
 use lib.ListN.{take}
 use lib.Seq.{length-take-le}
-use Rattle.tape.specs.Running.{linked}
-use Rattle.tape.proofs.run.run.Statement.{statement}
-use Rattle.tape.proofs.run.run.Tie as tie
+use Rattle.chunks.specs.Running.{linked}
+use Rattle.chunks.proofs.run.run.Statement.{statement}
+use Rattle.chunks.proofs.run.run.Tie as tie
 
 sub-least : tie.Need-sub-least
 sub-least c = search needs

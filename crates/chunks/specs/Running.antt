@@ -11,9 +11,9 @@ use Rattle.link.specs.Receiving.{received}
 use Rattle.lines.specs.declared.side.Side.{Side}
 use Rattle.lines.specs.Limits.{leastRoom}
 use Rattle.lines.specs.Lines.{brought}
-use Rattle.tape.specs.declared.run.Ran.{Ran}
 use Rattle.tape.specs.Limits.{mostRecords}
 use Rattle.tape.specs.Whole.{kindOf}
+use Rattle.chunks.specs.declared.run.Ran.{Ran}
 
 -- not more than either of two numbers, and not zero unless one of them is
 pub record Least (a b r : ℕ) : Type 0 where

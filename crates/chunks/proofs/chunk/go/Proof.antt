@@ -1,4 +1,4 @@
--- `Tape::go` meets its contract: what is left of the chunk gives what the whole chunk gives.
+-- `chunk::go` meets its contract: what is left of the chunk gives what the whole chunk gives.
 -- Assumes nothing.
 use mathlib.Core.Path.{_≡_, refl, sym, ap, subst, subst⁻¹, _∙_}
 use mathlib.Core.Logic.{⊎-elim}
@@ -11,17 +11,17 @@ use lib.ListN.{length, take, drop, length-drop}
 use lib.Seq.{take-all}
 use Rattle.link.specs.declared.receiver.Receiver.{Receiver}
 use Rattle.lines.specs.Limits.{leastRoom}
 use Rattle.tape.specs.declared.receivers.Receivers.{Receivers}
 use Rattle.tape.specs.declared.next.Next.{Next}
 use Rattle.tape.specs.declared.next.Next.the-variants.{Kind, Body}
 use Rattle.tape.specs.declared.tape.Tape.{Tape}
 use Rattle.tape.specs.Limits.{mostRecords}
 use Rattle.tape.specs.Whole.{on, turned}
-use Rattle.tape.specs.Running.{Heard, left}
 use Rattle.tape.specs.Taping.{being, isOver, going, Told, writing}
-use Rattle.tape.proofs.Laws.Chunks.{over, Goes, none-taken, at-end, out-of-room, at-last, next-kind, permitted, on-good, next-run, run-some}
-use Rattle.tape.proofs.tape.Tape.go.Statement.{statement}
-use Rattle.tape.proofs.tape.Tape.go.Tie as tie
+use Rattle.chunks.specs.Running.{Heard, left}
+use Rattle.chunks.proofs.Laws.Chunks.{over, Goes, none-taken, at-end, out-of-room, at-last, next-kind, permitted, on-good, next-run, run-some}
+use Rattle.chunks.proofs.chunk.go.Statement.{statement}
+use Rattle.chunks.proofs.chunk.go.Tie as tie
 
 -- what the whole chunk gives
 abbrev asked : List ℕ → Tape → List ℕ → Told
@@ -48,7 +48,7 @@ loop-holds c =
         few = omega (arith, e .good);
         fine = e .pre .0;
         ends = zero-le;
-        same = none-taken (e .args .self) (e .args .chunk .now) (e .args .out .now);
+        same = none-taken (e .args .tape) (e .args .chunk .now) (e .args .out .now);
       },
       refl,
       refl,
@@ -77,7 +77,7 @@ loop-again c =
     let l = c .before .before .before .before .before .before .before .before .loop in
     let a = c .before .before .before .before .before .before .before .before .before .before .before .before .args in
     let goes : Next → ℕ → Type 0 =
-    λ x n. Goes (a .chunk .now) (asked (a .chunk .now) (a .self) (a .out .now)) (l .out) (being (l .records) x (l .receivers)) n (l .written) in (
+    λ x n. Goes (a .chunk .now) (asked (a .chunk .now) (a .tape) (a .out .now)) (l .out) (being (l .records) x (l .receivers)) n (l .written) in (
       subst⁻¹ (λ (x : Next). goes x (l .taken + 1)) (c .behind-kind .ensures)
           (next-kind _ _ (roomy (c .before .before .before .before)) (omega arith) (subst (λ (x : Next). goes x (l .taken)) (c .before .before .enum-told .given .1) (l .inv .0))),
       l .inv .1,
@@ -104,7 +104,7 @@ abbrev whole : tie.After-on Inv-loop μ-loop → List ℕ
 whole o = o .before .before .before .before .before .before .before .before .before .before .before .before .args .chunk .now
 
 abbrev all : tie.After-on Inv-loop μ-loop → Told
-all o = asked (whole o) (o .before .before .before .before .before .before .before .before .before .before .before .before .args .self) (o .before .before .before .before .before .before .before .before .before .before .before .before .args .out .now)
+all o = asked (whole o) (o .before .before .before .before .before .before .before .before .before .before .before .before .args .tape) (o .before .before .before .before .before .before .before .before .before .before .before .before .args .out .now)
 
 -- a body is next
 body-next : (o : tie.After-on Inv-loop μ-loop) → let l = o .before .before .before .before .before .before .before .before .loop in
@@ -209,8 +209,8 @@ enum-told-2 c = search needs
 enum-told-3 : tie.Need-enum-told-3 Inv-loop μ-loop
 enum-told-3 c = search needs
 
-of-requires : tie.Need-of-requires Inv-loop μ-loop
-of-requires c κs = tt
+stopped-requires : tie.Need-stopped-requires Inv-loop μ-loop
+stopped-requires c κs = tt
 
 same-length : tie.Need-same-length Inv-loop μ-loop
 same-length c = omega (arith, c .before .before .loop .inv .1)
@@ -219,7 +219,7 @@ same-length c = omega (arith, c .before .before .loop .inv .1)
 returns : tie.Need-returns Inv-loop μ-loop
 returns c =
     let l = c .before .before .loop in
-    ap (over (l .out)) (c .of .ensures)
+    ap (over (l .out)) (c .stopped .ensures)
     ∙ ⊎-elim
     (λ w. out-of-room _ _ (l .inv .0) (omega (arith, leb-false leastRoom (w .2 .result) (w .3 .left), w .2 .ensures)))
     (⊎-elim
@@ -258,6 +258,6 @@ go-spec =
     loop-again-2
     enum-told-2
     enum-told-3
-    of-requires
+    stopped-requires
     same-length
     returns)

@@ -14,10 +14,10 @@ use Rattle.link.proofs.Laws.Receiving.{length-within}
 use Rattle.lines.specs.Limits.{leastRoom}
 use Rattle.lines.specs.Lines.{brought}
 use Rattle.lines.proofs.Laws.Lines.{puts-heard}
-use Rattle.tape.specs.Running.{leaving, running}
-use Rattle.tape.proofs.Laws.Hearing.{Goes, leavingBehind, out-of-room, out-of-bodies, takes-some, takes-most, next-call, none-before}
-use Rattle.tape.proofs.run.hear.Statement.{statement}
-use Rattle.tape.proofs.run.hear.Tie as tie
+use Rattle.chunks.specs.Running.{leaving, running}
+use Rattle.chunks.proofs.Laws.Hearing.{Goes, leavingBehind, out-of-room, out-of-bodies, takes-some, takes-most, next-call, none-before}
+use Rattle.chunks.proofs.run.hear.Statement.{statement}
+use Rattle.chunks.proofs.run.hear.Tie as tie
 
 abbrev Inv-loop : tie.InvT-loop
 Inv-loop side records bodies out₀ at receiver₀ count₀ end₀ out receiver count end =

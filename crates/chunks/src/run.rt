@@ -1,18 +1,18 @@
 // Records in a row on one line, heard together.
-use crate::limits::MOST_RECORDS;
 use ground::laying::room;
 use lines::event_line::put_heard;
 use lines::limits::LEAST_ROOM;
 use lines::side::Side;
 use link::receiver::Receiver;
+use tape::limits::MOST_RECORDS;
 ghost use mathlib.Core.Path.{_≡_};
 ghost use mathlib.Core.Bool.{false};
 ghost use Prim.Native.Nat.{_+_, _-_, _≤_, _<_};
 ghost use lib.ListN.{length, take};
 ghost use Rattle.link.specs.Receiving.{badState};
 ghost use Rattle.tape.specs.Limits.{mostRecords};
 ghost use Rattle.tape.specs.Whole.{kindOf};
-ghost use Rattle.tape.specs.Running.{Least, Gathered, left, leaving, running, Heard as HeardOf};
+ghost use Rattle.chunks.specs.Running.{Least, Gathered, left, leaving, running, Heard as HeardOf};
 
 // The receiver behind the records that were heard, their count, and where their lines end.
 pub(crate) struct Ran {

@@ -5,10 +5,10 @@ use Prim.Native.Nat.{_*_, _-_, _≤_}
 use native.Mathlib.Omega.{arith}
 use borrow.Author.Tests.{eqb-true}
 use lib.ListN.{length, take, getD, length-set}
-use Rattle.tape.specs.Running.{linked}
-use Rattle.tape.proofs.Laws.Running.{gather-first, gather-next, gathered}
-use Rattle.tape.proofs.run.gather.Statement.{statement}
-use Rattle.tape.proofs.run.gather.Tie as tie
+use Rattle.chunks.specs.Running.{linked}
+use Rattle.chunks.proofs.Laws.Running.{gather-first, gather-next, gathered}
+use Rattle.chunks.proofs.run.gather.Statement.{statement}
+use Rattle.chunks.proofs.run.gather.Tie as tie
 
 abbrev Inv-loop : tie.InvT-loop
 Inv-loop kind most chunk piece₀ limit count₀ piece count =

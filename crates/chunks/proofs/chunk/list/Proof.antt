@@ -1,13 +1,13 @@
--- `Tape::list` meets its contract: a tape that no row of the refusal table names goes over its chunk.
+-- `chunk::list` meets its contract: a tape that no row of the refusal table names goes over its chunk.
 -- Assumes nothing.
 use mathlib.Core.Path.{sym, ap, _∙_}
 use native.Mathlib.Omega.{arith}
 use borrow.Author.Needs.{needs}
 use borrow.Author.Tests.{lt-ltb, le-ltb}
 use Rattle.tape.specs.Taping.{listed}
-use Rattle.tape.proofs.Laws.Chunks.{over}
-use Rattle.tape.proofs.tape.Tape.list.Statement.{statement}
-use Rattle.tape.proofs.tape.Tape.list.Tie as tie
+use Rattle.chunks.proofs.Laws.Chunks.{over}
+use Rattle.chunks.proofs.chunk.list.Statement.{statement}
+use Rattle.chunks.proofs.chunk.list.Tie as tie
 
 is-bad-requires : tie.Need-is-bad-requires
 is-bad-requires c κs = search needs

@@ -1,0 +1,3 @@
+// A tape's bytes in, the listing's text out.
+pub mod chunk;
+mod run;
