@@ -58,7 +58,15 @@ fn answer_event(
     let lent_store = front_mut(&mut store, rooms.store);
     let lent_out = front_mut(&mut out, rooms.out);
     let header = device_header();
-    let answer = reader.answer(event, content, header, antenna, lent_store, lent_out);
+    let answer = steps::answer::answer(
+        reader,
+        event,
+        content,
+        header,
+        antenna,
+        lent_store,
+        lent_out,
+    );
     let reader = answer.reader;
     bench.reader = reader;
     bench.store = store;

@@ -1,5 +1,4 @@
 -- The laws, each file with the noun that it speaks of.
-pub mod Copying
 pub mod Parameters
 pub mod Replies
 pub mod Answering

@@ -1,20 +1,17 @@
 -- What a reader replies, and the frame that says it.
 -- 01, The point reader, the table and the paragraph below it; 001, 'Кадры ответа ACK/NACK'. Assumes nothing.
-use Prim.Native.Nat.{ℕ, _≤_}
+use Prim.Native.Nat.{ℕ}
 use mathlib.Core.Path.{_≡_}
 use mathlib.Core.Bool.{cond}
 use mathlib.Core.List.{List}
 use lib.ListN.{length}
-use Rattle.ground.specs.Refusals.{counted}
 use Rattle.wire.specs.Image.{image}
-use Rattle.wire.specs.Writing.{leaving, putting}
 use Rattle.link.specs.Frame.{pointContent}
 use Rattle.request.specs.declared.parameter.Parameter.{Parameter}
 use Rattle.request.specs.declared.command.Command.{Command}
 use Rattle.request.specs.declared.command.Command.the-variants.{Header, Write, Read, Card}
 use Rattle.request.specs.Cards.{isCode}
 use Rattle.request.specs.Replies.{Reply, ACK, NACK, DATA, commandIn, dataIn}
-use Rattle.reader.specs.Limits.{room}
 
 -- a reply's content with its check, and its frame's whole image
 abbrev pub replyContent : ℕ → ℕ → Reply → List ℕ
@@ -22,10 +19,6 @@ replyContent identifier code reply = pointContent identifier (commandIn code rep
 
 abbrev pub wire : ℕ → ℕ → Reply → List ℕ
 wire identifier code reply = image (replyContent identifier code reply)
-
--- this content's image was put to the front of a buffer with that room
-abbrev pub Puts : ℕ → List ℕ → List ℕ → List ℕ → Type 0
-Puts count out′ content out = (leaving (counted count) out′ ≡ putting content out) × (count ≤ room)
 
 -- the third column of the table, where the parameters have these values: the header; ACK; the value; the antenna's bytes as they come,
 -- or NACK 6 for no card and for a number of bytes that is not the card's

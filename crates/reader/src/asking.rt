@@ -5,13 +5,13 @@ ghost use Rattle.station.specs.Events.{named};
 ghost use Rattle.reader.specs.Asking.{asking};
 
 // Nothing that it answers, a frame whose check is wrong, or a frame whose check is right.
-pub(crate) enum Asking {
+pub enum Asking {
     Nothing,
     Wrong,
     Right,
 }
 
-pub(crate) fn asked_by(event: Event) -> Asking
+pub fn asked_by(event: Event) -> Asking
     ensures { λ r. ⌜ r ≡ asking (named event) ⌝ }
 {
     match event {

@@ -14,14 +14,14 @@ pub enum Memory {
 }
 
 // A frame that is new, or one that repeats the last executed command, whose stored reply is so long.
-pub(crate) enum Repeat {
+pub enum Repeat {
     New,
     Stored(usize),
 }
 
 impl Memory {
     // What a frame with this identifier and command is.
-    pub(crate) fn find(self, identifier: u8, command: u8) -> Repeat
+    pub fn find(self, identifier: u8, command: u8) -> Repeat
         ensures { λ r. ⌜ r ≡ findOf self identifier command ⌝ }
     {
         match self {

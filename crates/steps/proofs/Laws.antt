@@ -1,0 +1,4 @@
+-- The laws, each file with the noun that it speaks of.
+pub mod Copying
+pub mod Replies
+pub mod Answering

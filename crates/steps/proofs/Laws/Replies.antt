@@ -1,0 +1,61 @@
+-- A reply's frame is written whole: it fits the buffers that a reader is lent.
+-- Assumes nothing.
+use mathlib.Core.Path.{_≡_, refl, ap, _∙_}
+use mathlib.Core.Bool.{Bool, cond}
+use mathlib.Core.List.{List}
+use Prim.Native.Nat.{ℕ, _≤_}
+use native.Mathlib.Omega.{arith}
+use lib.ListN.{length, take, drop, length-append}
+use lib.Seq.{take-at}
+use Rattle.ground.specs.declared.refusal.Counted.{Counted}
+use Rattle.ground.specs.Refusals.{counted}
+use Rattle.wire.specs.Image.{image}
+use Rattle.wire.specs.Writing.{After, after, leaving}
+use Rattle.link.specs.Limits.{mostData}
+use Rattle.link.specs.Frame.{pointContent}
+use Rattle.link.specs.Writers.{pointWritten}
+use Rattle.link.proofs.Laws.Writers.{point-writes}
+use Rattle.request.specs.declared.parameter.Parameter.{Parameter}
+use Rattle.request.specs.declared.card.Card.{Card}
+use Rattle.request.specs.declared.command.Command.{Command}
+use Rattle.request.specs.declared.command.Command.the-variants as Command
+use Rattle.request.specs.Cards.{isCode}
+use Rattle.request.specs.Replies.{NACK, DATA}
+use Rattle.reader.specs.Limits.{room}
+use Rattle.reader.specs.Replies.{replyContent, replyTo}
+use Rattle.reader.proofs.Laws.Replies.{point-room}
+use Rattle.steps.specs.Replies.{Puts}
+
+-- the writer refuses no frame with data within the limit
+pub reply-put : (r : Counted) (identifier command : ℕ) («data» out : List ℕ) {out′ : List ℕ} → length «data» ≤ mostData → room ≤ length out
+    → after r out′ ≡ pointWritten identifier command «data» out
+    → Puts (r .count) out′ (pointContent identifier command «data») out
+reply-put r identifier command «data» out fits long says =
+    let within = point-room identifier command «data» fits in
+    let written = says ∙ point-writes identifier command «data» out fits (omega arith) in (
+      ap (λ (a : After). leaving (counted (a .answer .count)) (a .out)) written,
+      omega (arith, ap (λ (a : After). a .answer .count) written),
+    )
+
+-- what was put stands in front
+pub puts-front : {n : ℕ} {out′ : List ℕ} (content out : List ℕ) → Puts n out′ content out → take n out′ ≡ image content
+puts-front content out (e, within) =
+    ap (λ (a : After). take (a .answer .count) (a .out)) e
+    ∙ take-at (image content) (drop (length (image content)) out) (length (image content)) refl
+
+-- so much of out is there to be copied, and the store has room for it
+pub puts-within : {n : ℕ} {out′ : List ℕ} (content out : List ℕ) → Puts n out′ content out → n ≤ length out′
+puts-within content out put =
+    let n = ap (λ (a : After). a .answer .count) (put .0) in
+    let long = ap (λ (a : After). length (a .out)) (put .0) in
+    omega (arith, n, long, length-append (image content) (drop (length (image content)) out))
+
+-- a card's reply, by its test
+pub puts-card : {n : ℕ} {out′ : List ℕ} {command : Command} {card : Card} {t : Bool} (identifier code : ℕ) (value : Parameter → List ℕ)
+    (header antenna out : List ℕ)
+    → command ≡ Command.Card card
+    → isCode card (length antenna) ≡ t
+    → Puts n out′ (replyContent identifier code (cond t (DATA antenna) (NACK 6))) out
+    → Puts n out′ (replyContent identifier code (replyTo value command header antenna)) out
+unfolding replyTo
+puts-card identifier code value header antenna out asked whole put = rw (asked, whole) put

@@ -1,0 +1,177 @@
+// The call that does the steps of the point reader.
+use crate::reply::WRONG_CHECK;
+use crate::reply::write_nack;
+use crate::reply::write_reply;
+use crate::values::behind;
+use ground::laying::put;
+use ground::refusal::Refusal;
+use reader::asking::Asking;
+use reader::asking::asked_by;
+use reader::buffer::Buffer;
+use reader::limits::LEAST_FRONT;
+use reader::limits::MOST_FRONT;
+use reader::limits::ROOM;
+use reader::memory::Memory;
+use reader::memory::Repeat;
+use reader::reader::Answer;
+use reader::reader::Reader;
+use request::command::Acceptance;
+use request::command::Command;
+use request::command::accept;
+use request::command::nack_of;
+use request::header::HEADER_LENGTH;
+use request::limits::MOST_ANTENNA;
+use station::event::Event;
+ghost use mathlib.Core.Path.{_≡_};
+ghost use mathlib.Core.Bool.{true};
+ghost use Rattle.station.specs.Events.{named};
+ghost use Rattle.request.specs.Acceptance.{Carries};
+ghost use Rattle.reader.specs.Asking.{asking as askingOf};
+ghost use Rattle.reader.specs.Answering.{isFront, answering, Lent, executed as executedOf, framed, heeded, answered};
+
+// Answers what a receiver heard: an event with its content, the check cut off. What is to be sent stands in `out`, on a repeat in
+// `store`; `to_send` hands it back. Refuses a reader as `power_on` does (BadState), `store` or `out` under 130 bytes (NoRoom), an
+// antenna's answer over 8 (TooLong), and a FRAME or CHECK with fewer than 2 or more than 62 bytes of content (BadRequest), in this
+// order; a refusal leaves the reader and both buffers as they were.
+pub fn answer(
+    reader: Reader,
+    event: Event,
+    content: &[u8],
+    header: [u8; HEADER_LENGTH],
+    antenna: &[u8],
+    store: &mut [u8],
+    out: &mut [u8],
+) -> Answer
+    ensures { λ r. ⌜ answering r (now (store .exit)) (now (out .exit)) ≡ answered reader (named event) (now (content .entry)) header (now (antenna .entry)) (now (store .entry)) (now (out .entry)) ⌝ }
+{
+    if reader.is_bad() {
+        return Answer::refused(Refusal::BadState, reader);
+    }
+    if store.len() < ROOM {
+        return Answer::refused(Refusal::NoRoom, reader);
+    }
+    if out.len() < ROOM {
+        return Answer::refused(Refusal::NoRoom, reader);
+    }
+    if antenna.len() > MOST_ANTENNA {
+        return Answer::refused(Refusal::TooLong, reader);
+    }
+    heed(reader, event, content, header, antenna, store, out)
+}
+
+// The same, where only the content may have to be refused.
+fn heed(
+    reader: Reader,
+    event: Event,
+    content: &[u8],
+    header: [u8; HEADER_LENGTH],
+    antenna: &[u8],
+    store: &mut [u8],
+    out: &mut [u8],
+) -> Answer
+    requires { ⌜ Lent (now antenna) (now store) (now out) ⌝ }
+    ensures { λ r. ⌜ answering r (now (store .exit)) (now (out .exit)) ≡ heeded reader (askingOf (named event)) (now (content .entry)) header (now (antenna .entry)) (now (store .entry)) (now (out .entry)) ⌝ }
+{
+    let asking = asked_by(event);
+    match asking {
+        Asking::Nothing => Answer::sending(reader, Buffer::Out, 0),
+        Asking::Wrong => {
+            if is_front(content) {
+                Answer::sending(
+                    reader,
+                    Buffer::Out,
+                    write_nack(content[0], WRONG_CHECK, out),
+                )
+            } else {
+                Answer::refused(Refusal::BadRequest, reader)
+            }
+        }
+        Asking::Right => {
+            if is_front(content) {
+                answer_frame(reader, content, header, antenna, store, out)
+            } else {
+                Answer::refused(Refusal::BadRequest, reader)
+            }
+        }
+    }
+}
+
+// A frame whose check is right: steps 3 to 6.
+fn answer_frame(
+    reader: Reader,
+    content: &[u8],
+    header: [u8; HEADER_LENGTH],
+    antenna: &[u8],
+    store: &mut [u8],
+    out: &mut [u8],
+) -> Answer
+    requires { ⌜ (isFront (now content) ≡ true) × Lent (now antenna) (now store) (now out) ⌝ }
+    ensures { λ r. ⌜ answering r (now (store .exit)) (now (out .exit)) ≡ framed reader header (now (antenna .entry)) (now (store .entry)) (now (out .entry)) (now (content .entry)) ⌝ }
+{
+    let identifier = content[0];
+    let code = content[1];
+    let memory = reader.memory;
+    if let Repeat::Stored(length) = memory.find(identifier, code) {
+        return Answer::sending(reader, Buffer::Store, length);
+    }
+    let data = &content[2..];
+    let acceptance = accept(code, data);
+    match acceptance {
+        Acceptance::Accepted(command) => execute(
+            reader,
+            identifier,
+            code,
+            data,
+            command,
+            header,
+            antenna,
+            store,
+            out,
+        ),
+        Acceptance::Refused(fault) => {
+            Answer::sending(
+                reader,
+                Buffer::Out,
+                write_nack(identifier, nack_of(fault), out),
+            )
+        }
+    }
+}
+
+// Step 6.
+fn execute(
+    reader: Reader,
+    identifier: u8,
+    code: u8,
+    data: &[u8],
+    command: Command,
+    header: [u8; HEADER_LENGTH],
+    antenna: &[u8],
+    store: &mut [u8],
+    out: &mut [u8],
+) -> Answer
+    requires { ⌜ Carries command (now «data») × Lent (now antenna) (now store) (now out) ⌝ }
+    ensures { λ r. ⌜ answering r (now (store .exit)) (now (out .exit)) ≡ executedOf reader header (now (antenna .entry)) (now (store .entry)) (now (out .entry)) identifier code (now («data» .entry)) command ⌝ }
+{
+    let parameters = reader.parameters;
+    let length = write_reply(parameters, identifier, code, command, header, antenna, out);
+    put(&out[..length], store, 0);
+    let parameters = behind(parameters, command, data);
+    let memory = Memory::Last {
+        identifier,
+        command: code,
+        length,
+    };
+    let reader = Reader { parameters, memory };
+    Answer::sending(reader, Buffer::Out, length)
+}
+
+// Whether a FRAME or CHECK may carry this content.
+fn is_front(content: &[u8]) -> bool
+    ensures { λ r. ⌜ r ≡ isFront (now (content .entry)) ⌝ }
+{
+    if content.len() < LEAST_FRONT {
+        return false;
+    }
+    content.len() <= MOST_FRONT
+}
