@@ -17,6 +17,8 @@ use reader::reader::Reader;
 use request::header::HEADER_LENGTH;
 use request::header::header;
 use station::event::Event;
+ghost use Prim.Native.Nat.{_≤_};
+ghost use lib.ListN.{length as lengthOf};
 
 // How many bytes of each buffer's front are lent.
 struct Rooms {
@@ -162,6 +164,16 @@ pub(crate) fn set_reader(mut bench: Bench, payload: &[u8], text: &mut [u8], at: 
     if payload.len() < 17 {
         return bench.short(text, at);
     }
+    let parameters = parameters(payload);
+    let memory = memory(payload);
+    let reader = Reader { parameters, memory };
+    bench.reader = reader;
+    bench.done(at)
+}
+
+fn parameters(payload: &[u8]) -> Parameters
+    requires { ⌜ 17 ≤ lengthOf (now payload) ⌝ }
+{
     let settings = [payload[1], payload[2], payload[3], payload[4]];
     let cell = [
         payload[5],
@@ -173,23 +185,24 @@ pub(crate) fn set_reader(mut bench: Bench, payload: &[u8], text: &mut [u8], at: 
         payload[11],
         payload[12],
     ];
-    let parameters = Parameters {
+    Parameters {
         speed: payload[0],
         settings,
         cell,
-    };
-    let memory = if payload[13] == 0 {
-        Memory::None
-    } else {
-        Memory::Last {
-            identifier: payload[14],
-            command: payload[15],
-            length: length(payload[16]),
-        }
-    };
-    let reader = Reader { parameters, memory };
-    bench.reader = reader;
-    bench.done(at)
+    }
+}
+
+fn memory(payload: &[u8]) -> Memory
+    requires { ⌜ 17 ≤ lengthOf (now payload) ⌝ }
+{
+    if payload[13] == 0 {
+        return Memory::None;
+    }
+    Memory::Last {
+        identifier: payload[14],
+        command: payload[15],
+        length: length(payload[16]),
+    }
 }
 
 pub(crate) fn put_buffers(bench: Bench, text: &mut [u8], at: usize) -> Done {
