@@ -8,7 +8,6 @@ use Prim.Native.Nat.{ℕ, suc, _+_, _-_, _≤_}
 use native.Mathlib.Nat.{add-zero}
 use native.Mathlib.Omega.{arith}
 use lib.ListN.{length, take}
-use borrow.Author.Tests.{le-ltb}
 use Rattle.ground.specs.declared.refusal.Refusal.the-variants.{BadAddress}
 use Rattle.ground.specs.Refusals.{number}
 use Rattle.ground.proofs.Laws.Choice.{cond-elim}
@@ -25,8 +24,9 @@ use Rattle.station.specs.declared.phase.Phase.the-variants.{Inside}
 use Rattle.station.specs.declared.turn.Turn.the-variants.{Stop}
 use Rattle.station.specs.Address.{isStation}
 use Rattle.station.specs.Line.{checkOn, checked, hasStation}
-use Rattle.station.specs.Events.{Name, FRAME, happened, named, telling}
-use Rattle.station.specs.Events.{verdict}
+use Rattle.station.specs.Events.{Name, FRAME, happened, named, telling, verdict}
+use Rattle.station.specs.Rules.{right}
+use Rattle.station.proofs.Laws.Events.{verdict-only}
 use Rattle.link.specs.declared.receiver.Receiver.{Receiver}
 use Rattle.link.specs.Receiving.{fresh, Made, freshMade, outcome}
 use Rattle.link.specs.Hearing.{Told, toldAt, note, IsFresh, point, addressed, Hearing}
@@ -92,8 +92,7 @@ tell-behind line (b ∷ p) l v at x m =
 
 right-verdict : (check : Check) (content : List ℕ) → let c = withCheck check content in
     leastContent ≤ length c → verdict check c ≡ telling Frame (length c - checkLength check)
-unfolding verdict
-right-verdict check content least = rw (le-ltb (length (withCheck check content)) leastContent least, withCheck-right check content)
+right-verdict check content least = sym (verdict-only check _ (right least (withCheck-right check content)))
 
 frame-noted : (line : Line) (content : List ℕ) (place : ℕ) → leastContent ≤ length (checked line content)
     → noted line (view Inside (checked line content)) place Stop ≡ toldAt place FRAME content ∷ []

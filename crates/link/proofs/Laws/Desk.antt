@@ -8,17 +8,15 @@ use mathlib.Core.Logic.{⊎-elim}
 use Prim.Native.Nat.{ℕ, zero, suc, _+_, _-_, _≤_, _<_, zero-le}
 use native.Mathlib.Omega.{arith}
 use lib.ListN.{length, take, length-append}
-use borrow.Author.Tests.{ltb-false}
 use Rattle.ground.proofs.Laws.Choice.{cond-elim}
 use Rattle.checks.specs.declared.kind.Check.{Check}
-use Rattle.checks.specs.Check.{checkLength, withCheck, front, isRight}
+use Rattle.checks.specs.Check.{withCheck, front}
 use Rattle.checks.proofs.Laws.Right.{right-withCheck}
 use Rattle.wire.specs.Limits.{mostContent}
 use Rattle.station.specs.Limits.{leastContent}
 use Rattle.wire.specs.Stuffing.{special, stuffed, stuffing}
 use Rattle.wire.specs.Image.{start, stop, image}
 use Rattle.wire.proofs.Laws.Stuffing.{stuffed-other, stuffed-special, stuffing-append}
-use Rattle.station.specs.declared.event.Event.{Event}
 use Rattle.station.specs.declared.event.Verdict.{Verdict}
 use Rattle.station.specs.declared.line.Line.{Line}
 use Rattle.station.specs.declared.line.Line.the-variants.{Point, Addressed}
@@ -26,9 +24,10 @@ use Rattle.station.specs.declared.phase.Phase.{Phase}
 use Rattle.station.specs.declared.phase.Phase.the-variants.{Outside, Inside, Pending}
 use Rattle.station.specs.declared.turn.Turn.{Turn}
 use Rattle.station.specs.Line.{checkOn, checked, hasStation, Taken}
-use Rattle.station.specs.Events.{Name, NONE, FRAME, CHECK, SHORT, LONG, PAIR, ADDR, named, happened, telling, tooShort, verdict}
+use Rattle.station.specs.Events.{Name, NONE, FRAME, CHECK, SHORT, LONG, PAIR, ADDR, named, happened, verdict}
 use Rattle.station.specs.Rules.{Address, Later, ByRule, ignored, begins, stops, address, noAddress, waits, plain, pair, noPair, longPlain, longPair}
 use Rattle.station.proofs.Laws.Address.{takes-plain}
+use Rattle.station.proofs.Laws.Events.{by-stop}
 use Rattle.station.proofs.Laws.Turning.{turn-rule, address-room}
 use Rattle.link.specs.Receiving.{outcome}
 use Rattle.link.specs.Hearing.{Told, toldAt, note}
@@ -148,15 +147,11 @@ record IsFrame (check : Check) (k : List ℕ) (v : Verdict) : Type 0 where
   carried : take (v .length) k ≡ front check k
 
 verdict-frame : (check : Check) (k : List ℕ) → FRAME ≡ named (verdict check k .event) → IsFrame check k (verdict check k)
-unfolding verdict front
+unfolding front
 verdict-frame check k =
-    cond-elim P (tooShort k) (λ t e. absurd (not-frame e refl))
-    (λ f. cond-elim (λ (n : Event). P (telling n (length k - checkLength check))) (isRight check k)
-    (λ r e. record { least = ltb-false (length k) leastContent f; whole = right-withCheck check k r; carried = refl })
-    (λ w e. absurd (not-frame e refl)))
-  where
-    P : Verdict → Type 0
-    P v = FRAME ≡ named (v .event) → IsFrame check k v
+    by-stop check k (λ (v : Verdict). FRAME ≡ named (v .event) → IsFrame check k v) (λ few e. absurd (not-frame e refl))
+    (λ least w e. absurd (not-frame e refl))
+    (λ least r e. record { least = least; whole = right-withCheck check k r; carried = refl })
 
 told-frame : {place p : ℕ} {content c : List ℕ} (n : Name) → List·Memᴰ (toldAt place FRAME content) (note p n c)
     → (place ≡ p) × (FRAME ≡ n) × (content ≡ c)

@@ -5,14 +5,14 @@ use mathlib.Core.List.{List}
 use Prim.Native.Nat.{ℕ, _≤_, zero-le}
 use native.Mathlib.Omega.{arith}
 use lib.ListN.{length, length-set, length-replicate}
-use Rattle.ground.proofs.Laws.Choice.{cond-elim}
 use Rattle.checks.specs.declared.kind.Check.{Check}
 use Rattle.wire.specs.Limits.{mostContent}
 use Rattle.station.specs.declared.event.Verdict.{Verdict}
 use Rattle.station.specs.declared.line.Line.{Line}
 use Rattle.station.specs.declared.turn.Turn.{Turn}
 use Rattle.station.specs.declared.turn.Turn.the-variants.{Rest, Begin, Wait, Keep, Stop, Tell}
-use Rattle.station.specs.Events.{tooShort, verdict}
+use Rattle.station.specs.Events.{verdict}
+use Rattle.station.proofs.Laws.Events.{by-stop}
 use Rattle.station.proofs.Laws.Turning.{Room, turn-room}
 use Rattle.link.specs.declared.receiver.Receiver.{Receiver}
 use Rattle.link.specs.Receiving.{fresh, turnAt, moved, outcome}
@@ -20,9 +20,8 @@ use Rattle.link.specs.Receiving.{fresh, turnAt, moved, outcome}
 -- ---- an event carries no more than was kept
 
 verdict-length : (check : Check) (kept : List ℕ) → verdict check kept .length ≤ length kept
-unfolding verdict
 verdict-length check kept =
-    cond-elim (λ (v : Verdict). v .length ≤ length kept) (tooShort kept) (λ t. zero-le) (λ f. omega arith)
+    by-stop check kept (λ (v : Verdict). v .length ≤ length kept) (λ few. zero-le) (λ least w. omega arith) (λ least r. omega arith)
 
 pub outcome-length : (check : Check) (kept : List ℕ) (t : Turn) → outcome check kept t .length ≤ length kept
 unfolding outcome

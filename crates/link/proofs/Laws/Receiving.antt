@@ -14,16 +14,15 @@ use Rattle.ground.specs.Refusals.{number}
 use Rattle.ground.proofs.Laws.Choice.{cond-elim, or-none}
 use Rattle.ground.proofs.Laws.Lists.{drop-next}
 use Rattle.checks.specs.declared.kind.Check.{Check}
-use Rattle.checks.specs.Check.{isRight}
 use Rattle.wire.specs.Limits.{mostContent}
-use Rattle.station.specs.declared.event.Event.{Event}
 use Rattle.station.specs.declared.event.Verdict.{Verdict}
 use Rattle.station.specs.declared.line.Line.{Line}
 use Rattle.station.specs.declared.phase.Phase.{Phase}
 use Rattle.station.specs.declared.turn.Turn.{Turn}
 use Rattle.station.specs.Line.{checkOn, hasStation}
-use Rattle.station.specs.Events.{NONE, named, happened, silent, tooShort, verdict}
+use Rattle.station.specs.Events.{NONE, named, happened, silent, verdict}
 use Rattle.station.specs.Rules.{ByRule, ignored, begins, stops, address, noAddress, waits, plain, pair, noPair, longPlain, longPair}
+use Rattle.station.proofs.Laws.Events.{by-stop}
 use Rattle.station.proofs.Laws.Turning.{Room, turn-rule}
 use Rattle.link.specs.declared.receiver.Receiver.{Receiver}
 use Rattle.link.specs.Receiving.{soFar, turnAt, moved, hasEvent, outcome, outcomeAt, answering, heard, badState, refusedState, Said, received}
@@ -83,10 +82,8 @@ empty-piece s =
 
 -- a turn with an event tells something
 verdict-happens : (check : Check) (k : List ℕ) → happened (named (verdict check k .event)) ≡ true
-unfolding verdict
 verdict-happens check k =
-    cond-elim (λ (v : Verdict). happened (named (v .event)) ≡ true) (tooShort k) (λ t. refl)
-    (λ f. cond-elim (λ (e : Event). happened (named e) ≡ true) (isRight check k) (λ r. refl) (λ w. refl))
+    by-stop check k (λ (v : Verdict). happened (named (v .event)) ≡ true) (λ few. refl) (λ least w. refl) (λ least r. refl)
 
 rule-happens : (check : Check) (k : List ℕ) {line : Line} {phase : Phase} {count b : ℕ} {t : Turn} → ByRule line count b phase t
     → hasEvent t ≡ true → happened (named (outcome check k t .event)) ≡ true
