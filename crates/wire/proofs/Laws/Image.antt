@@ -6,13 +6,13 @@ use Prim.Native.Nat.{ℕ, _+_, _*_, _≤_, _<_}
 use native.Mathlib.Omega.{arith}
 use lib.ListN.{length, drop, set, length-append, length-set}
 use borrow.Author.Tests.{lt-ltb, le-ltb}
-use Rattle.ground.specs.declared.refusal.Refusal.the-variants.{TooLong}
+use Rattle.ground.specs.declared.refusal.Refusal.the-variants.{NoRoom, TooLong}
 use Rattle.ground.specs.Laying.{laid}
 use Rattle.ground.proofs.Laws.Laying.{laid-more, laid-next, laid-front, length-laid, set-laid}
 use Rattle.wire.specs.Limits.{mostContent}
 use Rattle.wire.specs.Stuffing.{stuffing}
 use Rattle.wire.specs.Image.{start, stop, image, imageLength}
-use Rattle.wire.specs.Writing.{refusing, imageWritten, imageAsked}
+use Rattle.wire.specs.Writing.{refusing, putting, imageWritten, imageAsked}
 use Rattle.wire.proofs.Laws.Stuffing.{length-stuffing, specials-most}
 
 -- the image is as long as its length says
@@ -50,6 +50,15 @@ roomForAny = 2 + 2 * mostContent
 
 pub room-for-any : (content : List ℕ) → length content ≤ mostContent → length (image content) ≤ roomForAny
 room-for-any content within = omega (arith, most-image content)
+
+-- what is left in the buffer where the image has no room, and where it has
+pub written-short : (content out : List ℕ) → length out < length (image content) → imageWritten content out ≡ refusing NoRoom out
+unfolding imageWritten
+written-short content out short = rw (lt-ltb (length out) (length (image content)) short)
+
+pub written-whole : (content out : List ℕ) → length (image content) ≤ length out → imageWritten content out ≡ putting content out
+unfolding imageWritten
+written-whole content out fits = rw (le-ltb (length out) (length (image content)) fits)
 
 -- where the content is within the limit, only the room for its image is asked
 pub asked-within : (content out : List ℕ) → length content ≤ mostContent → imageAsked content out ≡ imageWritten content out

@@ -2,19 +2,18 @@
 -- Assumes nothing.
 use mathlib.Core.Path.{_≡_, sym, ap, ap₂, _∙_}
 use mathlib.Core.List.{List}
-use Prim.Native.Nat.{ℕ, _+_, _-_, _≤_, _<_}
+use Prim.Native.Nat.{ℕ, _+_, _-_, _≤_}
 use native.Mathlib.Omega.{arith}
-use borrow.Author.Tests.{lt-ltb, le-ltb}
 use borrow.Rule.Slice.PartMut.{putMid}
 use lib.ListN.{length, set, length-set, length-take, length-drop}
 use borrow.Author.Needs.{needs}
 use Rattle.ground.specs.Laying.{laid}
-use Rattle.ground.specs.Refusals.{Answer, counted}
+use Rattle.ground.specs.Refusals.{counted}
 use Rattle.ground.proofs.Laws.Laying.{laid-part, length-laid}
 use Rattle.wire.specs.Stuffing.{stuffing}
 use Rattle.wire.specs.Image.{start, stop, image}
-use Rattle.wire.specs.Writing.{leaving, imageWritten}
-use Rattle.wire.proofs.Laws.Image.{length-image, room-behind, image-laid}
+use Rattle.wire.specs.Writing.{leaving}
+use Rattle.wire.proofs.Laws.Image.{length-image, room-behind, image-laid, written-short, written-whole}
 use Rattle.wire.proofs.image.lay_image.Statement.{statement}
 use Rattle.wire.proofs.image.lay_image.Tie as tie
 
@@ -53,11 +52,9 @@ refused-requires : tie.Need-refused-requires
 refused-requires c κs = search needs
 
 returns : tie.Need-returns
-unfolding imageWritten
 returns c =
-    let d = c .before .before .before .before .before in
-    let h : length (d .args .out .now) < length (image (d .args .content .now)) = omega (arith, length-image (d .args .content .now)) in
-    simp (lt-ltb _ _ h) (ap (λ (a : Answer). leaving a (d .args .out .now)) (c .refused .ensures))
+    let a = c .before .before .before .before .before .args in
+    rw (c .refused .ensures, written-short (a .content .now) (a .out .now) (omega (arith, length-image (a .content .now))))
 
 slice-write-out : tie.Need-slice-write-out
 slice-write-out c = omega (arith, room c)
@@ -88,12 +85,11 @@ same-length : tie.Need-same-length
 same-length c = rw (length-set _ _ stop) (length-back (c .before))
 
 returns-2 : tie.Need-returns-2
-unfolding imageWritten
 returns-2 c =
     let d = c .before .before .before .before .before .before .before .before .before in
     let content = d .args .content .now in
     let h : length (image content) ≤ length (d .args .out .now) = omega (arith, length-image content) in
-    simp (le-ltb _ _ h)
+    rw (written-whole content (d .args .out .now) h)
     (ap₂ leaving
     (c .of .ensures ∙ ap counted (c .before .before .before .before .before .before .wire-length .ensures ∙ sym (length-image content)))
     (ap₂ (λ (l : List ℕ) (k : ℕ). set l (1 + k) stop) (back (c .before)) (c .before .before .before .stuff .ensures .0)
