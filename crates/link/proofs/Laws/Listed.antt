@@ -31,7 +31,8 @@ use Rattle.link.specs.Hearing.{Told, toldAt, IsFresh, Hearing}
 use Rattle.link.specs.Listing.{Stands, Fields, onPoint, onAddressed, IsImage}
 use Rattle.link.proofs.Laws.Frame.{length-point, length-addressed}
 use Rattle.link.proofs.Laws.Writers.{by-table, point-writes, addressed-writes}
-use Rattle.link.proofs.Laws.Demand.{fresh-begins, hearing-lists}
+use Rattle.link.proofs.Laws.Fresh.{fresh-begins}
+use Rattle.link.proofs.Laws.Demand.{hearing-lists}
 
 -- ---- the crew's side
 

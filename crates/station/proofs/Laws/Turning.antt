@@ -1,4 +1,5 @@
--- A receiver's turn follows the table of its rules, and the table leaves no other turn.
+-- A receiver's turn follows the table of its rules, and the table leaves no other turn; a byte that is kept has room, and what is told is an
+-- event.
 -- Assumes nothing.
 use mathlib.Core.Path.{_≡_, refl, _∙_}
 use mathlib.Core.Bool.{Bool, true, false}
@@ -19,6 +20,7 @@ use Rattle.station.specs.declared.phase.Phase.the-variants.{Outside, Ins
 use Rattle.station.specs.declared.turn.Turn.{Turn}
 use Rattle.station.specs.declared.turn.Turn.the-variants.{Rest, Begin, Wait, Keep, Stop, Tell}
 use Rattle.station.specs.Address.{takes}
+use Rattle.station.specs.Events.{named, happened}
 use Rattle.station.specs.Turning.{kept, plain as plainTurn, partner, contentByte, inside, within, turn}
 use Rattle.station.specs.Rules.{Address, Later, ByRule, ignored, begins, stops, address, noAddress, waits, plain, pair, noPair, longPlain, longPair}
 
@@ -133,33 +135,33 @@ rule-only {b} (noPair over f) = rw (ne-eqb b start f, lt-leb b 0x02 over)
 rule-only {line} {count} {b} (longPlain later other full) = long-is count b full ∙ plain-turn line count b later other
 rule-only {line} {count} {b} (longPair known full) = long-is count (0xFF - b) full ∙ pair-turn line count b known
 
--- ---- room for a byte that is kept
+-- ---- a byte that is kept has room, and what is told is an event
 
-abbrev pub Room : ℕ → Turn → Type 0
-Room count Rest = Unit {0}
-Room count Begin = Unit {0}
-Room count Wait = Unit {0}
-Room count (Keep b) = count < mostContent
-Room count Stop = Unit {0}
-Room count (Tell why) = Unit {0}
+abbrev pub Sound : ℕ → Turn → Type 0
+Sound count Rest = Unit {0}
+Sound count Begin = Unit {0}
+Sound count Wait = Unit {0}
+Sound count (Keep b) = count < mostContent
+Sound count Stop = Unit {0}
+Sound count (Tell why) = happened (named why) ≡ true
 
 pub address-room : (line : Line) (count b : ℕ) → Address line count b true → count < mostContent
 address-room Point count b a = absurd a
 address-room (Addressed station) zero b a = lit≤ tt
 address-room (Addressed station) (suc count) b a = absurd a
 
-rule-room : {line : Line} {phase : Phase} {count b : ℕ} {t : Turn} → ByRule line count b phase t → Room count t
-rule-room (ignored f) = tt
-rule-room (begins e) = tt
-rule-room (stops e) = tt
-rule-room {line} {count} {b} (address a) = address-room line count b a
-rule-room (noAddress a) = tt
-rule-room (waits later e) = tt
-rule-room (plain later other room) = room
-rule-room (pair known room) = room
-rule-room (noPair over f) = tt
-rule-room (longPlain later other full) = tt
-rule-room (longPair known full) = tt
+rule-sound : {line : Line} {phase : Phase} {count b : ℕ} {t : Turn} → ByRule line count b phase t → Sound count t
+rule-sound (ignored f) = tt
+rule-sound (begins e) = tt
+rule-sound (stops e) = tt
+rule-sound {line} {count} {b} (address a) = address-room line count b a
+rule-sound (noAddress a) = refl
+rule-sound (waits later e) = tt
+rule-sound (plain later other room) = room
+rule-sound (pair known room) = room
+rule-sound (noPair over f) = refl
+rule-sound (longPlain later other full) = refl
+rule-sound (longPair known full) = refl
 
-pub turn-room : (line : Line) (phase : Phase) (count b : ℕ) → Room count (turn line phase count b)
-turn-room line phase count b = rule-room (turn-rule line phase count b)
+pub turn-sound : (line : Line) (phase : Phase) (count b : ℕ) → Sound count (turn line phase count b)
+turn-sound line phase count b = rule-sound (turn-rule line phase count b)
