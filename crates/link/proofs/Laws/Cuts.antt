@@ -7,7 +7,7 @@ use Prim.Native.Nat.{ℕ, _+_}
 use native.Mathlib.Nat.{add-zero}
 use native.Mathlib.Omega.{arith}
 use lib.ListN.{drop, drop-of-length-le}
-use lib.Seq.{drop-drop}
+use Rattle.ground.proofs.Laws.Lists.{drop-on}
 use Rattle.station.specs.declared.line.Line.{Line}
 use Rattle.station.specs.Line.{hasStation}
 use Rattle.link.specs.declared.receiver.Receiver.{Receiver}
@@ -69,8 +69,7 @@ module _ (line : Line) (stream : List ℕ) (before : ℕ) where
       )
 
   left-next : (b : ℕ) (l : List ℕ) (taken : ℕ) → drop (before + taken) stream ≡ b ∷ l → drop (before + (taken + 1)) stream ≡ l
-  left-next b l taken left =
-      ap (λ (n : ℕ). drop n stream) (shift taken) ∙ sym (drop-drop 1 (before + taken) stream) ∙ ap (drop 1) left
+  left-next b l taken left = ap (λ (n : ℕ). drop n stream) (shift taken) ∙ drop-on stream (before + taken) 1 left
 
   heard-tells : (rest piece : List ℕ) (taken : ℕ) (s : Receiver) → Fit line s → drop (before + taken) stream ≡ piece ++ rest
       → Tells (heard taken s piece) taken s (piece ++ rest)

@@ -3,11 +3,11 @@
 use mathlib.Core.Path.{_≡_, refl}
 use mathlib.Core.Bool.{true, false}
 use mathlib.Core.List.{List}
+use mathlib.Mathlib.Logic.Function.Defs.{LeftInverse·injective}
 use Prim.Native.Nat.{ℕ, _-_, _≤_, _<_}
 use lib.ListN.{length}
 use borrow.Author.Tests.{ltb-true, ltb-false, lt-ltb, le-ltb}
 use Rattle.ground.proofs.Laws.Choice.{cond-elim}
-use Rattle.ground.proofs.Laws.Inverse.{injective}
 use Rattle.checks.specs.declared.kind.Check as kind
 use Rattle.checks.specs.Check.{checkLength, isRight}
 use Rattle.station.specs.declared.event.Event.{Event}
@@ -37,7 +37,7 @@ eventOf-named Pair = refl
 eventOf-named Addr = refl
 
 pub named-injective : (a b : Event) → named a ≡ named b → a ≡ b
-named-injective = injective named eventOf eventOf-named
+named-injective = LeftInverse·injective eventOf named eventOf-named
 
 module _ (check : kind.Check) (content : List ℕ) where
   -- what holds of the three answers, where they are given, holds of what a stop byte tells
