@@ -2,4 +2,5 @@
 pub mod Stuffing
 pub mod Unstuffing
 pub mod Image
+pub mod Writing
 pub mod Unique

@@ -9,11 +9,10 @@ use native.Mathlib.Nat.{add-zero}
 use native.Mathlib.Omega.{arith}
 use lib.Dec.{lit≤}
 use lib.ListN.{length, length-append}
-use borrow.Author.Tests.{eqb-false}
 use Rattle.wire.specs.Limits.{mostContent}
 use Rattle.wire.specs.Stuffing.{special, stuffed, stuffing}
 use Rattle.wire.specs.Image.{start, stop, image}
-use Rattle.wire.proofs.Laws.Stuffing.{plain-ne, by-stuffed}
+use Rattle.wire.proofs.Laws.Stuffing.{by-stuffed, plain-neither}
 use Rattle.station.specs.declared.line.Line.{Line}
 use Rattle.station.specs.declared.line.Line.the-variants.{Point, Addressed}
 use Rattle.station.specs.declared.phase.Phase.the-variants.{Inside, Pending}
@@ -35,7 +34,8 @@ plain-kept : (line : Line) (k : List ℕ) (b : ℕ) (c : List ℕ) → Taken lin
     → ByRule line (length k) b Inside (Keep b)
 plain-kept Point k b c taken other room = plain tt other room
 plain-kept (Addressed station) [] b c taken other room =
-    address (eqb-false b start (plain-ne b start other refl), eqb-false b stop (plain-ne b stop other refl), taken)
+    let n = plain-neither b other in
+    address (n .0, n .1, taken)
 plain-kept (Addressed station) (a ∷ k) b c taken other room = plain tt other room
 
 -- one that stuffing changes is not the address

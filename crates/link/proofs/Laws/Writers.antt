@@ -10,15 +10,15 @@ use lib.ListN.{length}
 use borrow.Author.Tests.{ltb-true, ltb-false, lt-ltb, le-ltb}
 use Rattle.ground.specs.declared.refusal.Refusal.the-variants.{NoRoom, TooLong, BadAddress}
 use Rattle.ground.proofs.Laws.Choice.{cond-elim}
-use Rattle.frames.specs.Frame.{frameWritten}
-use Rattle.frames.proofs.Laws.Frame.{frame-within, frame-over}
-use Rattle.link.specs.Limits.{mostData}
 use Rattle.checks.specs.declared.kind.Check.the-variants.{Fcs}
 use Rattle.wire.specs.Image.{image}
 use Rattle.wire.specs.Writing.{After, refusing, putting, imageWritten}
 use Rattle.wire.proofs.Laws.Stuffing.{plain-is}
-use Rattle.wire.proofs.Laws.Image.{written-short, written-whole}
+use Rattle.wire.proofs.Laws.Writing.{written-short, written-whole}
 use Rattle.station.specs.Address.{isNever}
+use Rattle.frames.specs.Frame.{frameWritten}
+use Rattle.frames.proofs.Laws.Frame.{frame-within, frame-over}
+use Rattle.link.specs.Limits.{mostData}
 use Rattle.link.specs.Frame.{pointContent, addressedContent}
 use Rattle.link.specs.Writers.{written, pointWritten, addressedWritten, ByTable, tooLong, badAddress, noRoom, frame}
 

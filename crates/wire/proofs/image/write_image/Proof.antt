@@ -3,7 +3,7 @@
 use mathlib.Core.Path.{sym, _∙_}
 use native.Mathlib.Omega.{arith}
 use borrow.Author.Needs.{needs}
-use Rattle.wire.proofs.Laws.Image.{asked-within, asked-over}
+use Rattle.wire.proofs.Laws.Writing.{asked-within, asked-over}
 use Rattle.wire.proofs.image.write_image.Statement.{statement}
 use Rattle.wire.proofs.image.write_image.Tie as tie
 
