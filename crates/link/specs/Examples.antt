@@ -4,6 +4,7 @@ use Prim.Native.Nat.{ℕ}
 use mathlib.Core.Path.{_≡_}
 use mathlib.Core.Bool.{true}
 use mathlib.Core.List.{List, [], _∷_, _++_}
+use lib.ListN.{replicate}
 use Rattle.checks.specs.declared.kind.Check.{Check}
 use Rattle.checks.specs.declared.kind.Check.the-variants.{Fcs, Sum}
 use Rattle.checks.specs.Check.{withCheck, isRight}
@@ -15,7 +16,6 @@ use Rattle.station.specs.Events.{Name, FRAME, CHECK, SHORT, LONG, PAIR, ADDR}
 use Rattle.link.specs.Frame.{pointContent, addressedContent}
 use Rattle.link.specs.Receiving.{fresh, received}
 use Rattle.link.specs.Hearing.{toldAt, tells}
-use lib.ListN.{replicate}
 
 -- an example: what is done, and what the paper prints for it
 pub data Example : Type 0 where

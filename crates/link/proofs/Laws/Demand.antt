@@ -13,12 +13,12 @@ use Rattle.checks.specs.declared.kind.Check.{Check}
 use Rattle.checks.specs.Check.{checkLength, withCheck, front}
 use Rattle.checks.proofs.Laws.Right.{front-withCheck, withCheck-right}
 use Rattle.wire.specs.Image.{image}
-use Rattle.station.specs.Limits.{leastContent}
 use Rattle.station.specs.declared.event.Event.the-variants.{Frame}
 use Rattle.station.specs.declared.event.Verdict.{Verdict}
 use Rattle.station.specs.declared.line.Line.{Line}
 use Rattle.station.specs.declared.phase.Phase.the-variants.{Inside}
 use Rattle.station.specs.declared.turn.Turn.the-variants.{Stop}
+use Rattle.station.specs.Limits.{leastContent}
 use Rattle.station.specs.Line.{checkOn, checked, hasStation}
 use Rattle.station.specs.Events.{Name, FRAME, happened, named, telling, verdict}
 use Rattle.station.specs.Rules.{right}
