@@ -5,7 +5,7 @@ use mathlib.Core.Path.{_≡_, refl, sym, ap, ap₂, subst, _∙_}
 use mathlib.Core.Bool.{true, false}
 use mathlib.Core.List.{List, [], _∷_, _++_, append-assoc, append-nil, List·Memᴰ, List·Memᴰ·not-nil, List·Memᴰ·append-cases, List·Memᴰ·eq-of-singleton}
 use mathlib.Core.Logic.{⊎-elim}
-use Prim.Native.Nat.{ℕ, zero, suc, _+_, _-_, _≤_, _<_, zero-le}
+use Prim.Native.Nat.{ℕ, _+_, _-_, _≤_, _<_, zero-le}
 use native.Mathlib.Omega.{arith}
 use lib.ListN.{length, take, length-append}
 use Rattle.ground.proofs.Laws.Choice.{cond-elim, no-case}
@@ -25,7 +25,7 @@ use Rattle.station.specs.declared.turn.Turn.{Turn}
 use Rattle.station.specs.Limits.{leastContent}
 use Rattle.station.specs.Line.{checkOn, checked, hasStation, Taken}
 use Rattle.station.specs.Events.{Name, FRAME, LONG, PAIR, ADDR, named, happened, verdict}
-use Rattle.station.specs.Rules.{Address, Later, ByRule, ignored, begins, stops, address, noAddress, waits, plain, pair, noPair, longPlain, longPair}
+use Rattle.station.specs.Rules.{Address, first, Later, onPoint, behind, ByRule, ignored, begins, stops, address, noAddress, waits, plain, pair, noPair, longPlain, longPair}
 use Rattle.station.proofs.Laws.Address.{takes-plain}
 use Rattle.station.proofs.Laws.Events.{by-stop}
 use Rattle.station.proofs.Laws.Turning.{turn-rule, address-room}
@@ -70,21 +70,17 @@ taken-none Point = tt
 taken-none (Addressed station) = tt
 
 -- the address is no byte that stuffing changes
-address-plain : (line : Line) → hasStation line ≡ true → (count b : ℕ) → Address line count b true → special b ≡ false
-address-plain Point good count b a = absurd a
-address-plain (Addressed station) good zero b a = takes-plain station b good (a .2)
-address-plain (Addressed station) good (suc count) b a = absurd a
+address-plain : {line : Line} {count b : ℕ} → hasStation line ≡ true → Address line count b true → special b ≡ false
+address-plain {b} good (first {station} f g t) = takes-plain station b good t
 
 -- a content begins with an address that is taken, and goes on with it
-taken-first : (line : Line) (k : List ℕ) (b : ℕ) → Address line (length k) b true → Taken line (k ++ (b ∷ []))
-taken-first Point k b a = absurd a
-taken-first (Addressed station) [] b a = a .2
-taken-first (Addressed station) (x ∷ k) b a = absurd a
+taken-first : {line : Line} (k : List ℕ) (b : ℕ) → Address line (length k) b true → Taken line (k ++ (b ∷ []))
+taken-first [] b (first f g t) = t
 
-taken-later : (line : Line) (k : List ℕ) (b : ℕ) → Taken line k → Later line (length k) → Taken line (k ++ (b ∷ []))
-taken-later Point k b taken l = tt
-taken-later (Addressed station) [] b taken l = absurd l
-taken-later (Addressed station) (a ∷ k) b taken l = taken
+taken-later : {line : Line} (k : List ℕ) (b : ℕ) → Taken line k → Later line (length k) → Taken line (k ++ (b ∷ []))
+taken-later [] b taken onPoint = tt
+taken-later (a ∷ k) b taken onPoint = tt
+taken-later (a ∷ k) b taken behind = taken
 
 wire-more : (k : List ℕ) (b : ℕ) → wire k ++ stuffed b ≡ wire (k ++ (b ∷ []))
 unfolding stuffing
@@ -109,17 +105,17 @@ module _ (line : Line) (good : hasStation line ≡ true) (heard : List ℕ) wher
       record { before = heard; split = ap (λ (x : ℕ). heard ++ (x ∷ [])) s; most = zero-le; taken = taken-none line }
   trace-next k b (stops s) e = tt
   trace-next k b (address a) e =
-      trace-plain k b (address-plain line good (length k) b a) (address-room line (length k) b a) (taken-first line k b a) e
+      trace-plain k b (address-plain good a) (address-room a) (taken-first k b a) e
   trace-next k b (noAddress a) e = tt
   trace-next k b (waits l s) e =
       (ends-more k (wire k ++ (0xFF ∷ [])) b e (ap (λ (x : ℕ). wire k ++ (x ∷ [])) s) (e .most) (e .taken), l)
-  trace-next k b (plain l other room) e = trace-plain k b other room (taken-later line k b (e .taken) l) e
+  trace-next k b (plain l other room) e = trace-plain k b other room (taken-later k b (e .taken) l) e
   trace-next k b (pair known room) e =
       let x = 0xFF - b in
       let l = k ++ (x ∷ []) in
       ends-more l (wire l) b (e .0)
       (append-assoc (wire k) (0xFF ∷ []) (b ∷ []) ∙ (rw (stuffed-partner b known) at (wire-more k x)))
-      (simp length-append (omega arith)) (taken-later line k x (e .0 .taken) (e .1))
+      (simp length-append (omega arith)) (taken-later k x (e .0 .taken) (e .1))
   trace-next k b (noPair over f) e = tt
   trace-next k b (longPlain l other full) e = tt
   trace-next k b (longPair known full) e = tt
