@@ -85,7 +85,7 @@ module _ (line : Line) (stream : List ℕ) (before : ℕ) where
 
 module _ {line : Line} (good : hasStation line ≡ true) (stream : List ℕ) where
   -- one call, by its statement
-  pub call-tells : {s : Receiver} (before : ℕ) (piece rest : List ℕ) (r : Heard)
+  call-tells : {s : Receiver} (before : ℕ) (piece rest : List ℕ) (r : Heard)
       → Fit line s
       → drop before stream ≡ piece ++ rest
       → saying r ≡ received s piece

@@ -118,7 +118,7 @@ pub record Takes (taken : ℕ) (piece : List ℕ) (said : Said) : Type 0 where
   pub some : 0 < length piece → taken < said .taken
   pub all : happened (said .event) ≡ false → said .taken ≡ taken + length piece
 
-pub heard-takes : (piece : List ℕ) (taken : ℕ) (s : Receiver) → Takes taken piece (heard taken s piece)
+heard-takes : (piece : List ℕ) (taken : ℕ) (s : Receiver) → Takes taken piece (heard taken s piece)
 heard-takes =
     heard-elim (λ (taken : ℕ) (s : Receiver) (piece : List ℕ) (said : Said). Takes taken piece said)
     (λ taken s. record { least = omega arith; most = omega arith; some = λ h. absurd (omega arith); all = λ q. omega arith })
