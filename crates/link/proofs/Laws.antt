@@ -5,6 +5,7 @@ pub mod Fit
 pub mod Receiving
 pub mod Bytes
 pub mod View
+pub mod Fresh
 pub mod Cuts
 pub mod Crew
 pub mod Desk

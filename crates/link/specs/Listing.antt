@@ -7,11 +7,11 @@ use mathlib.Core.Bool.{true}
 use mathlib.Core.List.{List, [], _∷_, _++_, List·Memᴰ}
 use lib.ListN.{length}
 use Rattle.wire.specs.Limits.{mostContent}
-use Rattle.station.specs.Limits.{leastContent}
 use Rattle.wire.specs.Image.{image}
 use Rattle.wire.specs.Writing.{After, putting}
 use Rattle.station.specs.declared.line.Line.{Line}
 use Rattle.station.specs.declared.line.Line.the-variants.{Point, Addressed}
+use Rattle.station.specs.Limits.{leastContent}
 use Rattle.station.specs.Address.{takes}
 use Rattle.station.specs.Line.{checked, Taken}
 use Rattle.station.specs.Events.{FRAME}

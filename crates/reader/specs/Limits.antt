@@ -1,11 +1,11 @@
 -- The limits of the point reader, each under one name.
 -- Assumes nothing.
-use Prim.Native.Nat.{ℕ, _+_, _*_, _-_}
-use Rattle.wire.specs.Limits.{mostContent}
+use Prim.Native.Nat.{ℕ, _-_}
+use Rattle.wire.specs.Limits.{mostContent, mostImage}
 
 -- 01, The point reader: a store and an out buffer, each of at least 130 bytes, which hold the image of any frame
 abbrev pub room : ℕ
-room = 2 + 2 * mostContent
+room = mostImage
 
 -- 01, Refusal numbers, row 5: content without check is 2..62 bytes
 abbrev pub leastFront : ℕ

@@ -25,16 +25,17 @@ use Rattle.station.specs.Address.{takes}
 use Rattle.station.specs.Events.{telling}
 
 -- behind so many content bytes a byte is the raw address, and whether this station takes it
-abbrev pub Address : Line → ℕ → ℕ → Bool → Type 0
-Address Point count b taken = ⊥
-Address (Addressed station) zero b taken = (b ≡ start → ⊥) × (b ≡ stop → ⊥) × (takes station b ≡ taken)
-Address (Addressed station) (suc count) b taken = ⊥
+pub data Address : Line → ℕ → ℕ → Bool → Type 0 where
+  first : {station b : ℕ} {taken : Bool}
+      → (b ≡ start → ⊥)
+      → (b ≡ stop → ⊥)
+      → takes station b ≡ taken
+      → Address (Addressed station) zero b taken
 
 -- behind so many content bytes a byte is not the address
-abbrev pub Later : Line → ℕ → Type 0
-Later Point count = Unit {0}
-Later (Addressed station) zero = ⊥
-Later (Addressed station) (suc count) = Unit {0}
+pub data Later : Line → ℕ → Type 0 where
+  onPoint : {count : ℕ} → Later Point count
+  behind : {station count : ℕ} → Later (Addressed station) (suc count)
 
 pub data ByRule (line : Line) (count b : ℕ) : Phase → Turn → Type 0 where
   -- outside a frame everything but FD is ignored; FD begins a frame from every state

@@ -1,4 +1,4 @@
--- Laws of this library.
+-- Theorems about the definitions of specs/, each with the noun it speaks of.
 pub mod Decimal
 pub mod Hex
 pub mod Examples

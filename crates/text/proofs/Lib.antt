@@ -1,2 +1,2 @@
--- Laws of the text of numbers and bytes; the proofs of the functions stand beside them.
+-- The laws of this library, which stand for no one function.
 pub mod Laws

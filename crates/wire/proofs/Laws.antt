@@ -2,5 +2,6 @@
 pub mod Stuffing
 pub mod Unstuffing
 pub mod Image
+pub mod Writing
 pub mod Unique
 pub mod Examples

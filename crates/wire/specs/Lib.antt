@@ -1,5 +1,5 @@
--- What a reader of this library must believe: how a content stands on the wire. Read Limits, Stuffing and Image beside document 01, 'Layout of a
--- frame', Writing beside 'Refusal numbers', and Examples beside 'Bench examples'.
+-- What a reader of this library must believe: how a content stands on the wire. Read Limits, Stuffing and Image beside document 01, 'Layout
+-- of a frame', Writing beside 'Refusal numbers', and Examples beside 'Bench examples'.
 pub mod Limits
 pub mod Stuffing
 pub mod Image

@@ -1,15 +1,15 @@
 -- Laws of a right check: a content whose check is right is what stands before it, with its check.
 -- Assumes nothing.
 use mathlib.Core.Path.{_≡_, refl, sym, ap, _∙_}
-use mathlib.Core.Bool.{true, false, _&&_, and-true, and-false, and-eq-true-iff, false≢true}
+use mathlib.Core.Bool.{Bool, true, false, _&&_, and-true, and-eq-true-iff, false≢true}
 use mathlib.Core.List.{List, [], _∷_, _++_}
 use Prim.Native.Nat.{ℕ, _+_, _-_, _/_, _%_, _<_}
 use native.Mathlib.Omega.{arith}
-use native.Mathlib.Nat.{le-of-suc-le-suc, not-suc-le-zero}
 use lib.Dec.{eqb}
 use lib.ListN.{length, take, drop, getD, take-append-drop, length-drop, drop-of-length-le}
-use lib.Seq.{take-at, drop-at}
+use lib.Seq.{take-append-seam, drop-append-seam, take-at}
 use borrow.Author.Tests.{eqb-true, eq-eqb, ne-eqb}
+use Rattle.ground.proofs.Laws.Choice.{by-test}
 use Rattle.ground.proofs.Laws.Lists.{drop-next}
 use Rattle.checks.specs.declared.kind.Check.{Check}
 use Rattle.checks.specs.declared.kind.Check.the-variants.{Fcs, Sum}
@@ -34,11 +34,8 @@ same-alike (x ∷ a) = rw (eq-eqb x x refl, same-alike a)
 
 -- a list that is shorter than another is not like it
 alike-shorter : (a b : List ℕ) → length a < length b → alike a b ≡ false
-unfolding alike
-alike-shorter [] [] h = absurd (not-suc-le-zero h)
-alike-shorter [] (y ∷ b) h = refl
-alike-shorter (x ∷ a) [] h = refl
-alike-shorter (x ∷ a) (y ∷ b) h = rw (alike-shorter a b (le-of-suc-le-suc h), and-false)
+alike-shorter a b h =
+    by-test (λ (t : Bool). t ≡ false) (alike a b) (λ same. absurd (omega (arith, ap length (alike-same a b same)))) (λ other. refl)
 
 module _ (check : Check) (content : List ℕ) where
   -- what is shorter than its check has none
@@ -95,4 +92,4 @@ module _ (check : Check) (f : List ℕ) where
   unfolding withCheck
   withCheck-right =
       right-at check (f ++ checkOf check f) (length f) (omega (arith, length-withCheck check f))
-      ∙ rw (take-at f (checkOf check f) (length f) refl, drop-at f (checkOf check f) (length f) refl, same-alike (checkOf check f))
+      ∙ rw (take-append-seam f (checkOf check f), drop-append-seam f (checkOf check f), same-alike (checkOf check f))

@@ -1,14 +1,11 @@
 -- A whole exchange: what a reader sends is heard by the link as the frame that it meant, and the master reads in it what was meant.
 -- Assumes nothing.
-use mathlib.Core.Path.{_≡_, refl, sym, subst, subst⁻¹, _∙_}
+use mathlib.Core.Path.{_≡_, sym, subst, subst⁻¹, _∙_}
 use mathlib.Core.Bool.{Bool, false, true≢false}
 use mathlib.Core.List.{List, _∷_, _++_, List·Memᴰ}
 use Prim.Native.Nat.{ℕ, _+_, _≤_}
 use native.Mathlib.Omega.{arith}
-use lib.ListN.{length, getD, drop, replicate}
-use lib.Seq.{take-at}
-use Rattle.ground.specs.declared.refusal.Counted.{Counted}
-use Rattle.ground.specs.declared.refusal.Refusal.the-variants.{None}
+use lib.ListN.{length, getD, drop}
 use Rattle.ground.specs.Refusals.{number}
 use Rattle.station.specs.declared.event.Event.the-variants.{Frame, Check}
 use Rattle.station.specs.declared.line.Line.the-variants.{Point}
@@ -16,8 +13,7 @@ use Rattle.station.specs.Events.{FRAME, CHECK}
 use Rattle.link.specs.declared.receiver.Receiver.{Receiver}
 use Rattle.link.specs.Limits.{mostData}
 use Rattle.link.specs.Hearing.{Told, toldAt, IsFresh, Hearing}
-use Rattle.link.proofs.Laws.Writers.{point-writes}
-use Rattle.link.proofs.Laws.Listed.{point-listed}
+use Rattle.link.proofs.Laws.Listed.{point-image-listed}
 use Rattle.request.specs.declared.command.Command.{Command}
 use Rattle.request.specs.declared.command.Acceptance.the-variants as Acceptance
 use Rattle.request.specs.declared.command.Acceptance.the-variants.{Accepted}
@@ -28,12 +24,10 @@ use Rattle.request.specs.Replies.{Reply, NACK, sign, commandIn, dataIn, frontOf
 use Rattle.request.proofs.Laws.Acceptance.{accepts}
 use Rattle.reader.specs.declared.reader.Reader.{Reader}
 use Rattle.reader.specs.declared.reader.Answer.{Answer}
-use Rattle.reader.specs.Limits.{room}
 use Rattle.reader.specs.Replies.{wire, replyTo}
 use Rattle.reader.specs.Answering.{answering, answered}
 use Rattle.reader.specs.Sending.{sent}
 use Rattle.reader.specs.Sessions.{History, repeats, Kept, Session}
-use Rattle.reader.proofs.Laws.Replies.{point-room}
 use Rattle.reader.proofs.Laws.Executing.{reply-fits}
 use Rattle.reader.proofs.Laws.Sessions.{session-agrees, session-sends}
 use Rattle.master.specs.Reading.{accepting, replyRead}
@@ -44,16 +38,7 @@ module _ (identifier code : ℕ) (reply : Reply) (fits : length (dataIn reply) �
   pub reply-heard : (before rest : List ℕ) {m : Receiver} {all : List Told} → IsFresh Point m
       → Hearing (before ++ (wire identifier code reply ++ rest)) m 0 all
       → List·Memᴰ (toldAt (length before + length (wire identifier code reply)) FRAME (frontOf identifier code reply)) all
-  reply-heard before rest {m} {all} fr hearing =
-      let bytes = wire identifier code reply in
-      let out : List ℕ = replicate room 0 in
-      let out′ = bytes ++ drop (length bytes) out in
-      let r : Counted = record { refusal = None; count = length bytes } in
-      let within = point-room identifier (commandIn code reply) (dataIn reply) fits in
-      point-listed r identifier (commandIn code reply) (dataIn reply) out out′ before rest
-      (sym (point-writes identifier (commandIn code reply) (dataIn reply) out fits within)) refl fr
-      (subst⁻¹ (λ (l : List ℕ). Hearing (before ++ (l ++ rest)) m 0 all)
-      (take-at bytes (drop (length bytes) out) (length bytes) refl) hearing)
+  reply-heard before rest = point-image-listed identifier (commandIn code reply) (dataIn reply) before rest fits
 
 -- a request that is executed, its reply sent, heard, and read: the master accepts it and answers what the reader meant
 pub record Exchanged (h : History) (identifier code : ℕ) («data» header antenna before : List ℕ) (all : List Told)

@@ -13,7 +13,7 @@ use Rattle.checks.specs.Check.{checkOf, checkLength, withCheck}
 use Rattle.checks.proofs.Laws.Check.{length-withCheck}
 use Rattle.wire.specs.Limits.{mostContent}
 use Rattle.wire.specs.Writing.{refusing, imageWritten}
-use Rattle.wire.proofs.Laws.Image.{asked-within, asked-over}
+use Rattle.wire.proofs.Laws.Writing.{asked-within, asked-over}
 use Rattle.frames.specs.Frame.{frameWritten}
 
 -- the check laid behind a front that was laid: up to the check's end, the content with its check

@@ -74,6 +74,15 @@ set-laid l at b h = set-split l at b h ∙ rw (← add-one at)
 pub laid-next : (l : List ℕ) (at b : ℕ) (x : List ℕ) → at < length l → laid (set l at b) (at + 1) x ≡ laid l at (b ∷ x)
 laid-next l at b x h = rw (set-laid l at b h) (laid-more l at (b ∷ []) x (omega arith))
 
+-- a byte put behind what was laid
+pub set-behind : (l : List ℕ) (at : ℕ) (x : List ℕ) (b : ℕ) → at + length x < length l
+    → set (laid l at x) (at + length x) b ≡ laid l at (x ++ (b ∷ []))
+set-behind l at x b h =
+    set-laid (laid l at x) (at + length x) b (rw (length-laid l at x (omega arith)) h) ∙ laid-more l at x (b ∷ []) (omega arith)
+
+pub set-two : (l : List ℕ) (at a b : ℕ) → at + 2 ≤ length l → set (set l at a) (at + 1) b ≡ laid l at (a ∷ b ∷ [])
+set-two l at a b h = rw (set-laid l at a (omega arith)) (set-behind l at (a ∷ []) b (omega arith))
+
 -- what was laid into a part that was lent, from the place `at` to the end, stands there in the whole
 pub laid-part : (l : List ℕ) (at : ℕ) (x : List ℕ) → at + length x ≤ length l
     → putMid at (length l - at) l (laid (midOf at (length l - at) l) 0 x) ≡ laid l at x
@@ -92,6 +101,11 @@ put-refused bytes out at h = simp (lt-ltb (length out - at) (length bytes) h)
 pub put-placed : (bytes out : List ℕ) (at : ℕ) → length bytes ≤ length out - at → put bytes out at ≡ placed bytes out at
 unfolding put
 put-placed bytes out at h = simp (le-ltb (length out - at) (length bytes) h)
+
+-- a result that ends behind the bytes, and the buffer with them in it, is what is placed
+pub placed-is : (bytes out : List ℕ) (at : ℕ) {end : ℕ} {o : List ℕ} → end ≡ at + length bytes → o ≡ laid out at bytes
+    → record { refusal = 0; end = end; out = o } ≡ placed bytes out at
+placed-is bytes out at = ap₂ (λ (k : ℕ) (l : List ℕ). record { refusal = 0; end = k; out = l })
 
 -- so a call's bytes lie in the buffer that it left, where there was room for them
 pub put-laid : (bytes out : List ℕ) (at : ℕ) {e : Ended} → e ≡ put bytes out at → length bytes ≤ length out - at
@@ -127,4 +141,4 @@ puts-placed {out} {at} (then {y} x r o says more) begins fits =
     let same : length o ≡ length out = ap length lies ∙ length-laid out at x (omega arith) in
     puts-placed more (omega arith) (omega arith)
     ∙ ap₂ (placed y) lies end
-    ∙ ap₂ (λ (k : ℕ) (l : List ℕ). record { refusal = 0; end = k; out = l }) (omega arith) (laid-more out at x y begins)
+    ∙ placed-is (x ++ y) out at (omega arith) (laid-more out at x y begins)

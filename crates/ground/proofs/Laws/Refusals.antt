@@ -2,12 +2,12 @@
 -- Assumes nothing.
 use mathlib.Core.Path.{_≡_, refl}
 use mathlib.Core.List.{[], _∷_}
+use mathlib.Mathlib.Logic.Function.Defs.{LeftInverse·injective}
 use Prim.Native.Nat.{ℕ}
 use lib.ListN.{getD}
 use Rattle.ground.specs.declared.refusal.Refusal.{Refusal}
 use Rattle.ground.specs.declared.refusal.Refusal.the-variants.{None, NoRoom, TooLong, BadAddress, BadState, BadRequest, WrongId, WrongCommand, WrongLength, WrongReason}
 use Rattle.ground.specs.Refusals.{number}
-use Rattle.ground.proofs.Laws.Inverse.{injective}
 
 -- the refusal with this number
 abbrev numbered : ℕ → Refusal
@@ -27,4 +27,4 @@ numbered-number WrongLength = refl
 numbered-number WrongReason = refl
 
 pub number-injective : (a b : Refusal) → number a ≡ number b → a ≡ b
-number-injective = injective number numbered numbered-number
+number-injective = LeftInverse·injective numbered number numbered-number

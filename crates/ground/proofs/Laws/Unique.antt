@@ -9,7 +9,7 @@ use Rattle.ground.specs.Refusals.{Answer, answered}
 use Rattle.ground.specs.Laying.{Ended, ended}
 use Rattle.ground.proofs.Laws.Refusals.{number-injective}
 
--- of a call that answers a number
+-- of a call whose statement is an equation of the result itself: a number, a test, a turn, a receiver or a tape
 pub same : {A : Type 0} {r s t : A} → r ≡ t → s ≡ t → r ≡ s
 same p q = p ∙ sym q
 
@@ -20,7 +20,7 @@ same-answer {r} {s} p q =
     let why = number-injective (r .refusal) (s .refusal) (ap (λ (a : Answer). a .refusal) e) in
     λ i. record { refusal = why i; count = e i .count }
 
--- of a call that puts bytes at a place of one
+-- of a call that puts bytes at a place of a lent buffer
 pub same-ended : {r s : Placed} {o p : List ℕ} {t : Ended} → ended r o ≡ t → ended s p ≡ t → (r ≡ s) × (o ≡ p)
 same-ended {r} {s} {o} {p} d f =
     let e : ended r o ≡ ended s p = same d f in

@@ -1,14 +1,16 @@
 -- A piece is heard byte by byte: a call on it answers what a call on its first byte answers or, where that has no event, what a call on
--- the others answers behind it.
+-- the others answers behind it. So a hearing may go on byte by byte.
 -- Assumes nothing.
-use mathlib.Core.Path.{_≡_, refl, sym, ap, _∙_}
+use mathlib.Core.Path.{_≡_, refl, sym, ap, subst, _∙_}
 use mathlib.Core.Bool.{Bool, true, false, cond, true≢false, false≢true}
-use mathlib.Core.List.{List, [], _∷_}
+use mathlib.Core.List.{List, [], _∷_, _++_}
 use Prim.Native.Nat.{ℕ, _+_}
-use Rattle.station.specs.Events.{NONE, happened, silent}
+use lib.ListN.{take, drop}
+use Rattle.station.specs.Events.{Name, NONE, happened, silent}
 use Rattle.link.specs.declared.receiver.Receiver.{Receiver}
 use Rattle.link.specs.Receiving.{Said, turnAt, moved, hasEvent, outcomeAt, answering, heard, badState, received}
-use Rattle.link.proofs.Laws.Receiving.{event-happens, stays-good}
+use Rattle.link.specs.Hearing.{Told, toldAt, note, tells, Hearing, call}
+use Rattle.link.proofs.Laws.Receiving.{hears, received-answers, event-happens, takes-one, stays-good}
 
 -- an answer behind one byte more
 abbrev pub later : Said → Said
@@ -54,12 +56,12 @@ module _ (s : Receiver) (good : badState s ≡ false) (b : ℕ) where
   none = answering (moved s (turnAt s b)) silent 1
 
   one : received s (b ∷ []) ≡ cond (hasEvent (turnAt s b)) event none
-  unfolding received heard event none
-  one = rw good
+  unfolding heard event none
+  one = hears s (b ∷ []) good
 
   several : (bs : List ℕ) → received s (b ∷ bs) ≡ cond (hasEvent (turnAt s b)) event (heard (0 + 1) (moved s (turnAt s b)) bs)
-  unfolding received heard event
-  several bs = rw good
+  unfolding heard event
+  several bs = hears s (b ∷ bs) good
 
   -- an event at the first byte is all that the call tells
   pub received-first : (bs : List ℕ) → happened (received s (b ∷ []) .event) ≡ true → received s (b ∷ bs) ≡ received s (b ∷ [])
@@ -73,11 +75,36 @@ module _ (s : Receiver) (good : badState s ≡ false) (b : ℕ) where
   -- without one the others are heard behind it
   pub received-later : (bs : List ℕ) → happened (received s (b ∷ []) .event) ≡ false
       → received s (b ∷ bs) ≡ later (received (received s (b ∷ []) .receiver) bs)
-  unfolding received event none
+  unfolding event none
   received-later bs h =
       several bs
       ∙ happened-later (hasEvent (turnAt s b)) event none (λ (r : Receiver). heard (0 + 1) r bs) (event-happens s b)
       (sym (ap (λ (said : Said). happened (said .event)) one) ∙ h)
       ∙ ap (λ (said : Said). heard (0 + 1) (said .receiver) bs) (sym one)
       ∙ heard-later bs 0 (received s (b ∷ []) .receiver)
-      ∙ rw (stays-good s (b ∷ []) good)
+      ∙ ap later (sym (hears (received s (b ∷ []) .receiver) bs (stays-good s (b ∷ []) good)))
+
+-- ---- a hearing byte by byte
+
+pub note-some : (place : ℕ) (event : Name) (content : List ℕ) → happened event ≡ true
+    → note place event content ≡ toldAt place event content ∷ []
+unfolding note
+note-some place event content some = rw some
+
+pub note-none : (place : ℕ) (event : Name) (content : List ℕ) → happened event ≡ false → note place event content ≡ []
+unfolding note
+note-none place event content none = rw none
+
+pub hearing-byte : (stream : List ℕ) (b : ℕ) (bs : List ℕ) (before : ℕ) (s : Receiver) (more : List Told)
+    → badState s ≡ false → drop before stream ≡ b ∷ bs
+    → let said = received s (b ∷ []) in
+    Hearing stream (said .receiver) (before + 1) more
+    → Hearing stream s before (note (before + 1) (said .event) (take (said .length) (said .content)) ++ more)
+unfolding tells
+hearing-byte stream b bs before s more good left =
+    let said = received s (b ∷ []) in
+    let a = received-answers s (b ∷ []) good in
+    subst (λ (k : ℕ). Hearing stream (said .receiver) (before + k) more
+    → Hearing stream s before (note (before + k) (said .event) (take (said .length) (said .content)) ++ more)) (takes-one s good b)
+    (subst (λ (x : Said). Hearing stream (x .receiver) (before + x .taken) more → Hearing stream s before (tells before x ++ more)) (a .1)
+    (call (b ∷ []) bs (a .0) left (a .1)))

@@ -9,18 +9,17 @@ use native.Mathlib.Nat.{add-zero}
 use native.Mathlib.Omega.{arith}
 use lib.Dec.{lit≤}
 use lib.ListN.{length, length-append}
-use borrow.Author.Tests.{eqb-false}
 use Rattle.wire.specs.Limits.{mostContent}
 use Rattle.wire.specs.Stuffing.{special, stuffed, stuffing}
 use Rattle.wire.specs.Image.{start, stop, image}
-use Rattle.wire.proofs.Laws.Stuffing.{plain-ne, by-stuffed}
+use Rattle.wire.proofs.Laws.Stuffing.{by-stuffed, plain-neither}
 use Rattle.station.specs.declared.line.Line.{Line}
 use Rattle.station.specs.declared.line.Line.the-variants.{Point, Addressed}
 use Rattle.station.specs.declared.phase.Phase.the-variants.{Inside, Pending}
 use Rattle.station.specs.declared.turn.Turn.the-variants.{Wait, Keep, Stop}
 use Rattle.station.specs.Line.{hasStation, Taken}
 use Rattle.station.specs.Turning.{inside, within, turn}
-use Rattle.station.specs.Rules.{Later, ByRule, address, waits, plain, pair}
+use Rattle.station.specs.Rules.{first, Later, onPoint, behind, ByRule, address, waits, plain, pair}
 use Rattle.station.proofs.Laws.Address.{takes-plain}
 use Rattle.station.proofs.Laws.Turning.{rule-only}
 use Rattle.link.specs.Receiving.{outcome}
@@ -33,17 +32,18 @@ use Rattle.link.proofs.Laws.Cuts.{tell}
 -- a byte that stands for itself is kept: as the address or behind it
 plain-kept : (line : Line) (k : List ℕ) (b : ℕ) (c : List ℕ) → Taken line (k ++ (b ∷ c)) → special b ≡ false → length k < mostContent
     → ByRule line (length k) b Inside (Keep b)
-plain-kept Point k b c taken other room = plain tt other room
+plain-kept Point k b c taken other room = plain onPoint other room
 plain-kept (Addressed station) [] b c taken other room =
-    address (eqb-false b start (plain-ne b start other refl), eqb-false b stop (plain-ne b stop other refl), taken)
-plain-kept (Addressed station) (a ∷ k) b c taken other room = plain tt other room
+    let n = plain-neither b other in
+    address (first (n .0) (n .1) taken)
+plain-kept (Addressed station) (a ∷ k) b c taken other room = plain behind other room
 
 -- one that stuffing changes is not the address
 later : (line : Line) → hasStation line ≡ true → (k : List ℕ) (b : ℕ) (c : List ℕ) → Taken line (k ++ (b ∷ c)) → special b ≡ true
     → Later line (length k)
-later Point good k b c taken changed = tt
-later (Addressed station) good [] b c taken changed = true≢false (sym changed ∙ takes-plain station b good taken)
-later (Addressed station) good (a ∷ k) b c taken changed = tt
+later Point good k b c taken changed = onPoint
+later (Addressed station) good [] b c taken changed = absurd (true≢false (sym changed ∙ takes-plain station b good taken))
+later (Addressed station) good (a ∷ k) b c taken changed = behind
 
 -- ---- the wire bytes of a content byte
 

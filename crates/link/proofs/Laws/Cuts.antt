@@ -7,15 +7,15 @@ use Prim.Native.Nat.{ℕ, _+_}
 use native.Mathlib.Nat.{add-zero}
 use native.Mathlib.Omega.{arith}
 use lib.ListN.{drop, drop-of-length-le}
-use lib.Seq.{drop-drop}
+use Rattle.ground.proofs.Laws.Lists.{drop-on}
 use Rattle.station.specs.declared.line.Line.{Line}
 use Rattle.station.specs.Line.{hasStation}
 use Rattle.link.specs.declared.receiver.Receiver.{Receiver}
 use Rattle.link.specs.declared.receiver.Heard.{Heard}
 use Rattle.link.specs.Receiving.{Said, saying, turnAt, moved, hasEvent, outcomeAt, answering, heard, received}
 use Rattle.link.specs.Hearing.{Told, note, tells, Hearing, over, call}
-use Rattle.link.proofs.Laws.Receiving.{heard-elim, hears-piece}
-use Rattle.link.proofs.Laws.Fit.{room-at, Fit, fit-at}
+use Rattle.link.proofs.Laws.Receiving.{heard-elim, hears}
+use Rattle.link.proofs.Laws.Fit.{sound-at, Fit, fit-at, fit-good}
 use Rattle.link.proofs.Laws.View.{View, seen, turns, next, noted, turns-seen, seen-moved, noted-seen, quiet}
 
 -- what the bytes tell one by one, from behind a place on
@@ -28,7 +28,7 @@ tell-record : {line : Line} {s : Receiver} → Fit line s → (at b : ℕ) (l : 
     → tell line (seen s) at (b ∷ l) ≡ noted line (seen s) (at + 1) (turnAt s b) ++ tell line (seen (moved s (turnAt s b))) (at + 1) l
 unfolding tell
 tell-record {line} {s} fit at b l =
-    rw (seen-moved fit (turnAt s b) (room-at s b), turns-seen fit b)
+    rw (seen-moved fit (turnAt s b) (sound-at s b), turns-seen fit b)
 
 module _ (line : Line) (stream : List ℕ) (before : ℕ) where
   -- one call, which has taken some bytes, tells the next bytes up to its event, and leaves the others
@@ -69,8 +69,7 @@ module _ (line : Line) (stream : List ℕ) (before : ℕ) where
       )
 
   left-next : (b : ℕ) (l : List ℕ) (taken : ℕ) → drop (before + taken) stream ≡ b ∷ l → drop (before + (taken + 1)) stream ≡ l
-  left-next b l taken left =
-      ap (λ (n : ℕ). drop n stream) (shift taken) ∙ sym (drop-drop 1 (before + taken) stream) ∙ ap (drop 1) left
+  left-next b l taken left = ap (λ (n : ℕ). drop n stream) (shift taken) ∙ drop-on stream (before + taken) 1 left
 
   heard-tells : (rest piece : List ℕ) (taken : ℕ) (s : Receiver) → Fit line s → drop (before + taken) stream ≡ piece ++ rest
       → Tells (heard taken s piece) taken s (piece ++ rest)
@@ -86,7 +85,7 @@ module _ (line : Line) (stream : List ℕ) (before : ℕ) where
 
 module _ {line : Line} (good : hasStation line ≡ true) (stream : List ℕ) where
   -- one call, by its statement
-  pub call-tells : {s : Receiver} (before : ℕ) (piece rest : List ℕ) (r : Heard)
+  call-tells : {s : Receiver} (before : ℕ) (piece rest : List ℕ) (r : Heard)
       → Fit line s
       → drop before stream ≡ piece ++ rest
       → saying r ≡ received s piece
@@ -95,7 +94,7 @@ module _ {line : Line} (good : hasStation line ≡ true) (stream : List ℕ) whe
       ≡ tell line (seen s) before (drop before stream))
   call-tells {s} before piece rest r fit continues says =
       let start : drop (before + 0) stream ≡ piece ++ rest = rw (add-zero before) continues in
-      let says′ : saying r ≡ heard 0 s piece = says ∙ hears-piece s piece (fit .within) (ap hasStation (fit .on) ∙ good) in
+      let says′ : saying r ≡ heard 0 s piece = says ∙ hears s piece (fit-good good fit) in
       let h : Tells line stream before (saying r) 0 s (piece ++ rest) =
       subst⁻¹ (λ (said : Said). Tells line stream before said 0 s (piece ++ rest)) says′
       (heard-tells line stream before rest piece 0 s fit start) in

@@ -2,62 +2,36 @@
 -- matter.
 -- Assumes nothing.
 use mathlib.Core.Path.{_≡_, refl, sym, ap, subst, subst⁻¹, _∙_}
-use mathlib.Core.Bool.{Bool, true, false, cond}
+use mathlib.Core.Bool.{true}
 use mathlib.Core.List.{List, [], _∷_, _++_, List·Memᴰ, List·Memᴰ·head, Memᴰ·append-left, Memᴰ·append-right}
 use Prim.Native.Nat.{ℕ, suc, _+_, _-_, _≤_}
 use native.Mathlib.Nat.{add-zero}
 use native.Mathlib.Omega.{arith}
 use lib.ListN.{length, take}
-use borrow.Author.Tests.{le-ltb}
-use Rattle.ground.specs.declared.refusal.Refusal.the-variants.{BadAddress}
-use Rattle.ground.specs.Refusals.{number}
 use Rattle.ground.proofs.Laws.Choice.{cond-elim}
 use Rattle.checks.specs.declared.kind.Check.{Check}
 use Rattle.checks.specs.Check.{checkLength, withCheck, front}
 use Rattle.checks.proofs.Laws.Right.{front-withCheck, withCheck-right}
-use Rattle.station.specs.Limits.{leastContent}
 use Rattle.wire.specs.Image.{image}
 use Rattle.station.specs.declared.event.Event.the-variants.{Frame}
 use Rattle.station.specs.declared.event.Verdict.{Verdict}
 use Rattle.station.specs.declared.line.Line.{Line}
-use Rattle.station.specs.declared.line.Line.the-variants.{Point, Addressed}
 use Rattle.station.specs.declared.phase.Phase.the-variants.{Inside}
 use Rattle.station.specs.declared.turn.Turn.the-variants.{Stop}
-use Rattle.station.specs.Address.{isStation}
+use Rattle.station.specs.Limits.{leastContent}
 use Rattle.station.specs.Line.{checkOn, checked, hasStation}
-use Rattle.station.specs.Events.{Name, FRAME, happened, named, telling}
-use Rattle.station.specs.Events.{verdict}
+use Rattle.station.specs.Events.{Name, FRAME, happened, named, telling, verdict}
+use Rattle.station.specs.Rules.{right}
+use Rattle.station.proofs.Laws.Events.{verdict-only}
 use Rattle.link.specs.declared.receiver.Receiver.{Receiver}
-use Rattle.link.specs.Receiving.{fresh, Made, freshMade, outcome}
-use Rattle.link.specs.Hearing.{Told, toldAt, note, IsFresh, point, addressed, Hearing}
+use Rattle.link.specs.Receiving.{outcome}
+use Rattle.link.specs.Hearing.{Told, toldAt, note, IsFresh, Hearing}
 use Rattle.link.specs.Listing.{Stands, Rise, Lists}
-use Rattle.link.proofs.Laws.Fit.{Fit, fresh-fit}
-use Rattle.link.proofs.Laws.View.{View, view, nowhere, seen, turns, next, noted}
+use Rattle.link.proofs.Laws.View.{View, view, nowhere, turns, next, noted}
+use Rattle.link.proofs.Laws.Fresh.{fresh-begins}
 use Rattle.link.proofs.Laws.Cuts.{tell, hearing-tells}
 use Rattle.link.proofs.Laws.Crew.{image-tells}
 use Rattle.link.proofs.Laws.Desk.{tell-stands}
-
--- ---- a fresh receiver
-
--- a receiver of this line that no row of the refusal table names, outside a frame
-pub record Begins (line : Line) (s : Receiver) : Type 0 where
-  pub good : hasStation line ≡ true
-  pub fit : Fit line s
-  pub nowhere : seen s ≡ nowhere
-
-fresh-on : (line : Line) → hasStation line ≡ true → Begins line (fresh line)
-fresh-on line good = record { good = good; fit = fresh-fit line; nowhere = refl }
-
-accepted : (t : Bool) → cond t 0 (number BadAddress) ≡ 0 → t ≡ true
-accepted true e = refl
-accepted false e = absurd (omega arith)
-
-pub fresh-begins : {line : Line} {s : Receiver} → IsFresh line s → Begins line s
-unfolding freshMade
-fresh-begins (point e) = subst⁻¹ (Begins Point) e (fresh-on Point refl)
-fresh-begins (addressed r {station} says taken) =
-    let good = accepted (isStation station) (sym (ap (λ (m : Made). m .refusal) says) ∙ taken) in
-    subst⁻¹ (Begins (Addressed station)) (ap (λ (m : Made). m .receiver) says) (fresh-on (Addressed station) good)
 
 -- ---- places rise
 
@@ -92,8 +66,7 @@ tell-behind line (b ∷ p) l v at x m =
 
 right-verdict : (check : Check) (content : List ℕ) → let c = withCheck check content in
     leastContent ≤ length c → verdict check c ≡ telling Frame (length c - checkLength check)
-unfolding verdict
-right-verdict check content least = rw (le-ltb (length (withCheck check content)) leastContent least, withCheck-right check content)
+right-verdict check content least = sym (verdict-only check _ (right least (withCheck-right check content)))
 
 frame-noted : (line : Line) (content : List ℕ) (place : ℕ) → leastContent ≤ length (checked line content)
     → noted line (view Inside (checked line content)) place Stop ≡ toldAt place FRAME content ∷ []

@@ -2,33 +2,32 @@
 -- where a whole image stands.
 -- Assumes nothing.
 use mathlib.Core.Path.{_≡_, refl, sym, ap, ap₂, subst, _∙_}
-use mathlib.Core.Bool.{Bool, true, false, true≢false}
+use mathlib.Core.Bool.{true, false}
 use mathlib.Core.List.{List, [], _∷_, _++_, append-assoc, append-nil, List·Memᴰ, List·Memᴰ·not-nil, List·Memᴰ·append-cases, List·Memᴰ·eq-of-singleton}
 use mathlib.Core.Logic.{⊎-elim}
-use Prim.Native.Nat.{ℕ, zero, suc, _+_, _-_, _≤_, _<_, zero-le}
+use Prim.Native.Nat.{ℕ, _+_, _-_, _≤_, _<_, zero-le}
 use native.Mathlib.Omega.{arith}
 use lib.ListN.{length, take, length-append}
-use borrow.Author.Tests.{ltb-false}
-use Rattle.ground.proofs.Laws.Choice.{cond-elim}
+use Rattle.ground.proofs.Laws.Choice.{cond-elim, no-case}
 use Rattle.checks.specs.declared.kind.Check.{Check}
-use Rattle.checks.specs.Check.{checkLength, withCheck, front, isRight}
+use Rattle.checks.specs.Check.{withCheck, front}
 use Rattle.checks.proofs.Laws.Right.{right-withCheck}
 use Rattle.wire.specs.Limits.{mostContent}
-use Rattle.station.specs.Limits.{leastContent}
 use Rattle.wire.specs.Stuffing.{special, stuffed, stuffing}
 use Rattle.wire.specs.Image.{start, stop, image}
-use Rattle.wire.proofs.Laws.Stuffing.{stuffed-other, stuffed-special, stuffing-append}
-use Rattle.station.specs.declared.event.Event.{Event}
+use Rattle.wire.proofs.Laws.Stuffing.{stuffed-other, stuffed-partner, stuffing-append}
 use Rattle.station.specs.declared.event.Verdict.{Verdict}
 use Rattle.station.specs.declared.line.Line.{Line}
 use Rattle.station.specs.declared.line.Line.the-variants.{Point, Addressed}
 use Rattle.station.specs.declared.phase.Phase.{Phase}
 use Rattle.station.specs.declared.phase.Phase.the-variants.{Outside, Inside, Pending}
 use Rattle.station.specs.declared.turn.Turn.{Turn}
+use Rattle.station.specs.Limits.{leastContent}
 use Rattle.station.specs.Line.{checkOn, checked, hasStation, Taken}
-use Rattle.station.specs.Events.{Name, NONE, FRAME, CHECK, SHORT, LONG, PAIR, ADDR, named, happened, telling, tooShort, verdict}
-use Rattle.station.specs.Rules.{Address, Later, ByRule, ignored, begins, stops, address, noAddress, waits, plain, pair, noPair, longPlain, longPair}
+use Rattle.station.specs.Events.{Name, FRAME, LONG, PAIR, ADDR, named, happened, verdict}
+use Rattle.station.specs.Rules.{Address, first, Later, onPoint, behind, ByRule, ignored, begins, stops, address, noAddress, waits, plain, pair, noPair, longPlain, longPair}
 use Rattle.station.proofs.Laws.Address.{takes-plain}
+use Rattle.station.proofs.Laws.Events.{by-stop}
 use Rattle.station.proofs.Laws.Turning.{turn-rule, address-room}
 use Rattle.link.specs.Receiving.{outcome}
 use Rattle.link.specs.Hearing.{Told, toldAt, note}
@@ -71,21 +70,17 @@ taken-none Point = tt
 taken-none (Addressed station) = tt
 
 -- the address is no byte that stuffing changes
-address-plain : (line : Line) → hasStation line ≡ true → (count b : ℕ) → Address line count b true → special b ≡ false
-address-plain Point good count b a = absurd a
-address-plain (Addressed station) good zero b a = takes-plain station b good (a .2)
-address-plain (Addressed station) good (suc count) b a = absurd a
+address-plain : {line : Line} {count b : ℕ} → hasStation line ≡ true → Address line count b true → special b ≡ false
+address-plain {b} good (first {station} f g t) = takes-plain station b good t
 
 -- a content begins with an address that is taken, and goes on with it
-taken-first : (line : Line) (k : List ℕ) (b : ℕ) → Address line (length k) b true → Taken line (k ++ (b ∷ []))
-taken-first Point k b a = absurd a
-taken-first (Addressed station) [] b a = a .2
-taken-first (Addressed station) (x ∷ k) b a = absurd a
+taken-first : {line : Line} (k : List ℕ) (b : ℕ) → Address line (length k) b true → Taken line (k ++ (b ∷ []))
+taken-first [] b (first f g t) = t
 
-taken-later : (line : Line) (k : List ℕ) (b : ℕ) → Taken line k → Later line (length k) → Taken line (k ++ (b ∷ []))
-taken-later Point k b taken l = tt
-taken-later (Addressed station) [] b taken l = absurd l
-taken-later (Addressed station) (a ∷ k) b taken l = taken
+taken-later : {line : Line} (k : List ℕ) (b : ℕ) → Taken line k → Later line (length k) → Taken line (k ++ (b ∷ []))
+taken-later [] b taken onPoint = tt
+taken-later (a ∷ k) b taken onPoint = tt
+taken-later (a ∷ k) b taken behind = taken
 
 wire-more : (k : List ℕ) (b : ℕ) → wire k ++ stuffed b ≡ wire (k ++ (b ∷ []))
 unfolding stuffing
@@ -110,36 +105,22 @@ module _ (line : Line) (good : hasStation line ≡ true) (heard : List ℕ) wher
       record { before = heard; split = ap (λ (x : ℕ). heard ++ (x ∷ [])) s; most = zero-le; taken = taken-none line }
   trace-next k b (stops s) e = tt
   trace-next k b (address a) e =
-      trace-plain k b (address-plain line good (length k) b a) (address-room line (length k) b a) (taken-first line k b a) e
+      trace-plain k b (address-plain good a) (address-room a) (taken-first k b a) e
   trace-next k b (noAddress a) e = tt
   trace-next k b (waits l s) e =
       (ends-more k (wire k ++ (0xFF ∷ [])) b e (ap (λ (x : ℕ). wire k ++ (x ∷ [])) s) (e .most) (e .taken), l)
-  trace-next k b (plain l other room) e = trace-plain k b other room (taken-later line k b (e .taken) l) e
+  trace-next k b (plain l other room) e = trace-plain k b other room (taken-later k b (e .taken) l) e
   trace-next k b (pair known room) e =
       let x = 0xFF - b in
       let l = k ++ (x ∷ []) in
-      let back : 0xFF - x ≡ b = omega arith in
-      let stuffs : stuffed x ≡ 0xFF ∷ b ∷ [] = stuffed-special x (omega arith) (omega arith) ∙ ap (λ (p : ℕ). 0xFF ∷ p ∷ []) back in
       ends-more l (wire l) b (e .0)
-      (append-assoc (wire k) (0xFF ∷ []) (b ∷ []) ∙ (rw stuffs at (wire-more k x)))
-      (simp length-append (omega arith)) (taken-later line k x (e .0 .taken) (e .1))
+      (append-assoc (wire k) (0xFF ∷ []) (b ∷ []) ∙ (rw (stuffed-partner b known) at (wire-more k x)))
+      (simp length-append (omega arith)) (taken-later k x (e .0 .taken) (e .1))
   trace-next k b (noPair over f) e = tt
   trace-next k b (longPlain l other full) e = tt
   trace-next k b (longPair known full) e = tt
 
 -- ---- where a FRAME is told
-
-abbrev isFrame : Name → Bool
-isFrame NONE = false
-isFrame FRAME = true
-isFrame CHECK = false
-isFrame SHORT = false
-isFrame LONG = false
-isFrame PAIR = false
-isFrame ADDR = false
-
-not-frame : {n : Name} → FRAME ≡ n → isFrame n ≡ false → ⊥
-not-frame e f = true≢false (ap isFrame e ∙ f)
 
 -- a stop byte tells FRAME only behind a content that is long enough and whose check is right; it carries what stands before the check
 record IsFrame (check : Check) (k : List ℕ) (v : Verdict) : Type 0 where
@@ -148,15 +129,11 @@ record IsFrame (check : Check) (k : List ℕ) (v : Verdict) : Type 0 where
   carried : take (v .length) k ≡ front check k
 
 verdict-frame : (check : Check) (k : List ℕ) → FRAME ≡ named (verdict check k .event) → IsFrame check k (verdict check k)
-unfolding verdict front
+unfolding front
 verdict-frame check k =
-    cond-elim P (tooShort k) (λ t e. absurd (not-frame e refl))
-    (λ f. cond-elim (λ (n : Event). P (telling n (length k - checkLength check))) (isRight check k)
-    (λ r e. record { least = ltb-false (length k) leastContent f; whole = right-withCheck check k r; carried = refl })
-    (λ w e. absurd (not-frame e refl)))
-  where
-    P : Verdict → Type 0
-    P v = FRAME ≡ named (v .event) → IsFrame check k v
+    by-stop check k (λ (v : Verdict). FRAME ≡ named (v .event) → IsFrame check k v) (λ few e. no-case (cc))
+    (λ least w e. no-case (cc))
+    (λ least r e. record { least = least; whole = right-withCheck check k r; carried = refl })
 
 told-frame : {place p : ℕ} {content c : List ℕ} (n : Name) → List·Memᴰ (toldAt place FRAME content) (note p n c)
     → (place ≡ p) × (FRAME ≡ n) × (content ≡ c)
@@ -205,10 +182,10 @@ module _ (line : Line) (good : hasStation line ≡ true) where
   noted-stands heard rest k b place front (stops s) e m =
       let f = told-frame (named (verdict (checkOn line) k .event)) m in
       rw (f .0, f .2) (stop-stands heard k rest b s e (f .1))
-  noted-stands heard rest k b place front (noAddress a) e m = absurd (not-frame (told-frame ADDR m .1) refl)
-  noted-stands heard rest k b place front (noPair over f) e m = absurd (not-frame (told-frame PAIR m .1) refl)
-  noted-stands heard rest k b place front (longPlain l other full) e m = absurd (not-frame (told-frame LONG m .1) refl)
-  noted-stands heard rest k b place front (longPair known full) e m = absurd (not-frame (told-frame LONG m .1) refl)
+  noted-stands heard rest k b place front (noAddress a) e m = no-case (cc (told-frame ADDR m .1))
+  noted-stands heard rest k b place front (noPair over f) e m = no-case (cc (told-frame PAIR m .1))
+  noted-stands heard rest k b place front (longPlain l other full) e m = no-case (cc (told-frame LONG m .1))
+  noted-stands heard rest k b place front (longPair known full) e m = no-case (cc (told-frame LONG m .1))
   noted-stands heard rest k b place front (ignored f) e m = absurd (List·Memᴰ·not-nil m)
   noted-stands heard rest k b place front (begins s) e m = absurd (List·Memᴰ·not-nil m)
   noted-stands heard rest k b place front (address a) e m = absurd (List·Memᴰ·not-nil m)

@@ -1,37 +1,38 @@
 -- What crew and desk ask of a listing: every frame that a writer wrote is listed wherever it stands, and every listed frame is byte for
 -- byte the image of what its content says.
 -- Assumes nothing.
-use mathlib.Core.Path.{_≡_, refl, sym, ap, subst⁻¹, _∙_}
+use mathlib.Core.Path.{_≡_, refl, sym, ap, subst, subst⁻¹, _∙_}
 use mathlib.Core.Bool.{Bool, true, false}
 use mathlib.Core.List.{List, [], _∷_, _++_, List·Memᴰ}
 use Prim.Native.Nat.{ℕ, _+_, _≤_}
 use native.Mathlib.Omega.{arith}
 use lib.ListN.{length, take, drop}
-use lib.Seq.{take-at}
+use lib.Seq.{take-append-seam}
 use Rattle.ground.specs.declared.refusal.Counted.{Counted}
 use Rattle.ground.specs.Refusals.{answered}
 use Rattle.checks.specs.declared.kind.Check.the-variants.{Fcs, Sum}
 use Rattle.checks.specs.Check.{withCheck}
 use Rattle.checks.proofs.Laws.Check.{length-withCheck}
 use Rattle.wire.specs.Limits.{mostContent}
-use Rattle.station.specs.Limits.{leastContent}
-use Rattle.link.specs.Limits.{mostData}
 use Rattle.wire.specs.Image.{image}
 use Rattle.wire.specs.Writing.{After, after}
 use Rattle.station.specs.declared.line.Line.{Line}
 use Rattle.station.specs.declared.line.Line.the-variants.{Point, Addressed}
+use Rattle.station.specs.Limits.{leastContent}
 use Rattle.station.specs.Address.{isNever, takes}
 use Rattle.station.specs.Line.{checked, hasStation, Taken}
 use Rattle.station.specs.Events.{FRAME}
 use Rattle.station.proofs.Laws.Address.{takes-lt}
 use Rattle.link.specs.declared.receiver.Receiver.{Receiver}
+use Rattle.link.specs.Limits.{mostData}
 use Rattle.link.specs.Frame.{pointContent, addressedContent}
 use Rattle.link.specs.Writers.{written, pointWritten, addressedWritten, ByTable, tooLong, badAddress, noRoom, frame}
 use Rattle.link.specs.Hearing.{Told, toldAt, IsFresh, Hearing}
-use Rattle.link.specs.Listing.{Stands, Fields, onPoint, onAddressed, IsImage}
+use Rattle.link.specs.Listing.{Fields, onPoint, onAddressed, IsImage}
 use Rattle.link.proofs.Laws.Frame.{length-point, length-addressed}
 use Rattle.link.proofs.Laws.Writers.{by-table, point-writes, addressed-writes}
-use Rattle.link.proofs.Laws.Demand.{fresh-begins, hearing-lists}
+use Rattle.link.proofs.Laws.Fresh.{fresh-begins}
+use Rattle.link.proofs.Laws.Demand.{hearing-lists}
 
 -- ---- the crew's side
 
@@ -47,23 +48,7 @@ table-wrote (tooLong long) none = absurd (omega arith)
 table-wrote (badAddress fits bad) none = absurd (omega arith)
 table-wrote (noRoom fits good short) none = absurd (omega arith)
 table-wrote {content} {out} (frame fits good room) none =
-    record { fits = fits; bytes = take-at (image content) (drop (length (image content)) out) (length (image content)) refl; counts = refl }
-
--- a frame that was written stands where it was put
-module _ (line : Line) (front «data» before rest : List ℕ) where
-  wrote-stands : {w : After} → Wrote «data» (checked line front) w → length (checked line front) ≡ leastContent + length «data»
-      → Taken line (checked line front)
-      → Stands line (before ++ (take (w .answer .count) (w .out) ++ rest)) (length before + w .answer .count) front
-  wrote-stands w long taken =
-      record {
-        before = before;
-        after = rest;
-        split = ap (λ (l : List ℕ). before ++ (l ++ rest)) (w .bytes);
-        ends = ap (λ (n : ℕ). length before + n) (w .counts);
-        least = omega arith;
-        most = omega (arith, w .fits);
-        address = taken;
-      }
+    record { fits = fits; bytes = take-append-seam (image content) (drop (length (image content)) out); counts = refl }
 
 wrote : (never : Bool) («data» content out : List ℕ) (r : Counted) {out′ : List ℕ} → after r out′ ≡ written never «data» content out
     → answered r .refusal ≡ 0
@@ -71,6 +56,31 @@ wrote : (never : Bool) («data» content out : List ℕ) (r : Counted) {out′ :
 wrote never «data» content out r says none =
     subst⁻¹ (Wrote «data» content) says
     (table-wrote (by-table never «data» content out) (sym (ap (λ (a : After). a .answer .refusal) says) ∙ none))
+
+-- the image of a content with its check, put anywhere into any stream, is told there, and so is what a writer wrote
+module _ (line : Line) (front «data» before rest : List ℕ) (long : length (checked line front) ≡ leastContent + length «data»)
+    (taken : Taken line (checked line front)) {s : Receiver} {all : List Told} (fr : IsFresh line s) where
+  image-listed : length «data» ≤ mostData → let bytes = image (checked line front) in
+      Hearing (before ++ (bytes ++ rest)) s 0 all
+      → List·Memᴰ (toldAt (length before + length bytes) FRAME front) all
+  image-listed fits h =
+      hearing-lists fr h .each (length before + length (image (checked line front))) front
+      (record { before = before; after = rest; split = refl; ends = refl; least = omega arith; most = omega arith; address = taken })
+
+  wrote-listed : {w : After} → Wrote «data» (checked line front) w → Hearing (before ++ (take (w .answer .count) (w .out) ++ rest)) s 0 all
+      → List·Memᴰ (toldAt (length before + w .answer .count) FRAME front) all
+  wrote-listed w h =
+      rw (w .counts) (image-listed (w .fits) (subst (λ (l : List ℕ). Hearing (before ++ (l ++ rest)) s 0 all) (w .bytes) h))
+
+pub point-image-listed : (identifier command : ℕ) («data» before rest : List ℕ) {s : Receiver} {all : List Told}
+    → length «data» ≤ mostData
+    → IsFresh Point s
+    → let bytes = image (pointContent identifier command «data») in
+    Hearing (before ++ (bytes ++ rest)) s 0 all
+    → List·Memᴰ (toldAt (length before + length bytes) FRAME (identifier ∷ command ∷ «data»)) all
+unfolding pointContent
+point-image-listed identifier command «data» before rest fits fr =
+    image-listed Point (identifier ∷ command ∷ «data») «data» before rest (length-point identifier command «data») tt fr fits
 
 -- every image that a writer wrote, put anywhere into any stream, is listed there with what was written
 pub point-listed : (r : Counted) (identifier command : ℕ) («data» out out′ before rest : List ℕ) {s : Receiver} {all : List Told}
@@ -80,11 +90,9 @@ pub point-listed : (r : Counted) (identifier command : ℕ) («data» out out′
     → Hearing (before ++ (take (r .count) out′ ++ rest)) s 0 all
     → List·Memᴰ (toldAt (length before + r .count) FRAME (identifier ∷ command ∷ «data»)) all
 unfolding pointWritten pointContent
-point-listed r identifier command «data» out out′ before rest says none fr h =
-    let front = identifier ∷ command ∷ «data» in
-    hearing-lists fr h .each (length before + r .count) front
-    (wrote-stands Point front «data» before rest (wrote false «data» (pointContent identifier command «data») out r says none)
-    (length-point identifier command «data») tt)
+point-listed r identifier command «data» out out′ before rest says none fr =
+    wrote-listed Point (identifier ∷ command ∷ «data») «data» before rest (length-point identifier command «data») tt fr
+    (wrote false «data» (pointContent identifier command «data») out r says none)
 
 pub addressed-listed : (r : Counted) (station address identifier command : ℕ)
     («data» out out′ before rest : List ℕ) {s : Receiver} {all : List Told}
@@ -95,12 +103,10 @@ pub addressed-listed : (r : Counted) (station address identifier command : ℕ)
     → Hearing (before ++ (take (r .count) out′ ++ rest)) s 0 all
     → List·Memᴰ (toldAt (length before + r .count) FRAME (address ∷ identifier ∷ command ∷ «data»)) all
 unfolding addressedWritten addressedContent withCheck
-addressed-listed r station address identifier command «data» out out′ before rest says none taken fr h =
-    let front = address ∷ identifier ∷ command ∷ «data» in
-    hearing-lists fr h .each (length before + r .count) front
-    (wrote-stands (Addressed station) front «data» before rest
+addressed-listed r station address identifier command «data» out out′ before rest says none taken fr =
+    wrote-listed (Addressed station) (address ∷ identifier ∷ command ∷ «data») «data» before rest
+    (length-addressed address identifier command «data») taken fr
     (wrote (isNever address) «data» (addressedContent address identifier command «data») out r says none)
-    (length-addressed address identifier command «data») taken)
 
 -- ---- the desk's side
 

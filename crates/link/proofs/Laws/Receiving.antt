@@ -4,30 +4,27 @@ use mathlib.Core.Path.{_≡_, refl, sym, subst⁻¹, _∙_}
 use mathlib.Core.Bool.{Bool, true, false, cond, not, or-true, true≢false, false≢true}
 use mathlib.Core.List.{List, [], _∷_}
 use Prim.Native.Nat.{ℕ, _+_, _≤_, _<_, zero-le}
-use native.Mathlib.Nat.{min-le-left}
 use native.Mathlib.Omega.{arith}
 use lib.Dec.{ltb}
 use lib.ListN.{length, drop, getD, length-take, drop-of-length-le}
 use borrow.Author.Tests.{lt-ltb, le-ltb, ltb-false}
-use Rattle.ground.specs.declared.refusal.Refusal.the-variants.{BadState}
+use Rattle.ground.specs.declared.refusal.Refusal.the-variants.{None, BadState}
 use Rattle.ground.specs.Refusals.{number}
-use Rattle.ground.proofs.Laws.Choice.{cond-elim, or-none}
+use Rattle.ground.proofs.Laws.Choice.{cond-elim, by-test, or-none}
 use Rattle.ground.proofs.Laws.Lists.{drop-next}
 use Rattle.checks.specs.declared.kind.Check.{Check}
-use Rattle.checks.specs.Check.{isRight}
 use Rattle.wire.specs.Limits.{mostContent}
-use Rattle.station.specs.declared.event.Event.{Event}
 use Rattle.station.specs.declared.event.Verdict.{Verdict}
-use Rattle.station.specs.declared.line.Line.{Line}
-use Rattle.station.specs.declared.phase.Phase.{Phase}
 use Rattle.station.specs.declared.turn.Turn.{Turn}
+use Rattle.station.specs.declared.turn.Turn.the-variants.{Rest, Begin, Wait, Keep, Stop, Tell}
 use Rattle.station.specs.Line.{checkOn, hasStation}
-use Rattle.station.specs.Events.{NONE, named, happened, silent, tooShort, verdict}
-use Rattle.station.specs.Rules.{ByRule, ignored, begins, stops, address, noAddress, waits, plain, pair, noPair, longPlain, longPair}
-use Rattle.station.proofs.Laws.Turning.{Room, turn-rule}
+use Rattle.station.specs.Events.{NONE, named, happened, silent, verdict}
+use Rattle.station.proofs.Laws.Events.{by-stop}
+use Rattle.station.proofs.Laws.Turning.{Sound}
 use Rattle.link.specs.declared.receiver.Receiver.{Receiver}
-use Rattle.link.specs.Receiving.{soFar, turnAt, moved, hasEvent, outcome, outcomeAt, answering, heard, badState, refusedState, Said, received}
-use Rattle.link.proofs.Laws.Fit.{outcome-length, line-moved, count-moved, room-at, Fit, fit-moved}
+use Rattle.link.specs.declared.receiver.Heard.{Heard}
+use Rattle.link.specs.Receiving.{soFar, turnAt, moved, hasEvent, outcome, outcomeAt, answering, heard, badState, refusedState, Said, saying, received}
+use Rattle.link.proofs.Laws.Fit.{outcome-length, Leaves, leaves-all, leaves-then, sound-at, leaves-at, Fit, fit-moved}
 
 -- ---- the piece byte by byte
 
@@ -57,20 +54,35 @@ module _ (s : Receiver) (piece : List ℕ) where
   unfolding received
   refuses-station bad = rw (bad, or-true)
 
-  pub hears-piece : s .count ≤ mostContent → hasStation (s .line) ≡ true → received s piece ≡ heard 0 s piece
+  pub hears : badState s ≡ false → received s piece ≡ heard 0 s piece
   unfolding received
-  hears-piece within good = rw (le-ltb mostContent (s .count) within, good)
+  hears good = rw good
+
+  pub hears-piece : s .count ≤ mostContent → hasStation (s .line) ≡ true → received s piece ≡ heard 0 s piece
+  hears-piece within good = hears (rw (le-ltb mostContent (s .count) within, good))
 
   -- and only then
   pub refused-only : received s piece .refusal ≡ cond (badState s) (number BadState) 0
   unfolding received
-  refused-only = go (badState s)
-    where
-      go : (t : Bool) → cond t (refusedState s) (heard 0 s piece) .refusal ≡ cond t (number BadState) 0
-      go true = refl
-      go false =
-          heard-elim (λ (n : ℕ) (r : Receiver) (p : List ℕ) (said : Said). said .refusal ≡ 0) (λ n r. refl) (λ n r b bs e. refl)
-          (λ n r b bs said e h. h) piece 0 s
+  refused-only =
+      by-test (λ (t : Bool). cond t (refusedState s) (heard 0 s piece) .refusal ≡ cond t (number BadState) 0) (badState s) (λ bad. refl)
+      (λ good. heard-elim (λ (n : ℕ) (r : Receiver) (p : List ℕ) (said : Said). said .refusal ≡ 0) (λ n r. refl) (λ n r b bs e. refl)
+      (λ n r b bs said e h. h) piece 0 s)
+
+-- there is a result that says what was heard
+answer : Receiver → Verdict → ℕ → Heard
+answer s v taken = record { refusal = None; receiver = s; event = v .event; content = s .content; length = v .length; taken = taken }
+
+heard-answers : (piece : List ℕ) (taken : ℕ) (s : Receiver) → (r : Heard) × (saying r ≡ heard taken s piece)
+unfolding answer
+heard-answers =
+    heard-elim (λ (taken : ℕ) (s : Receiver) (piece : List ℕ) (said : Said). (r : Heard) × (saying r ≡ said))
+    (λ taken s. (answer s silent taken, refl))
+    (λ taken s b bs y. (answer (moved s (turnAt s b)) (outcomeAt s (turnAt s b)) (taken + 1), refl))
+    (λ taken s b bs said n r. r)
+
+pub received-answers : (s : Receiver) (piece : List ℕ) → badState s ≡ false → (r : Heard) × (saying r ≡ received s piece)
+received-answers s piece good = rw (hears s piece good) (heard-answers piece 0 s)
 
 -- an empty piece changes nothing
 pub empty-piece : (s : Receiver) → received s [] .receiver ≡ s × received s [] .event ≡ NONE × received s [] .taken ≡ 0
@@ -83,28 +95,21 @@ empty-piece s =
 
 -- a turn with an event tells something
 verdict-happens : (check : Check) (k : List ℕ) → happened (named (verdict check k .event)) ≡ true
-unfolding verdict
 verdict-happens check k =
-    cond-elim (λ (v : Verdict). happened (named (v .event)) ≡ true) (tooShort k) (λ t. refl)
-    (λ f. cond-elim (λ (e : Event). happened (named e) ≡ true) (isRight check k) (λ r. refl) (λ w. refl))
+    by-stop check k (λ (v : Verdict). happened (named (v .event)) ≡ true) (λ few. refl) (λ least w. refl) (λ least r. refl)
 
-rule-happens : (check : Check) (k : List ℕ) {line : Line} {phase : Phase} {count b : ℕ} {t : Turn} → ByRule line count b phase t
-    → hasEvent t ≡ true → happened (named (outcome check k t .event)) ≡ true
+turn-happens : (check : Check) (k : List ℕ) (count : ℕ) (t : Turn) → Sound count t → hasEvent t ≡ true
+    → happened (named (outcome check k t .event)) ≡ true
 unfolding outcome
-rule-happens check k (ignored f) y = absurd (false≢true y)
-rule-happens check k (begins e) y = absurd (false≢true y)
-rule-happens check k (stops e) y = verdict-happens check k
-rule-happens check k (address a) y = absurd (false≢true y)
-rule-happens check k (noAddress a) y = refl
-rule-happens check k (waits l e) y = absurd (false≢true y)
-rule-happens check k (plain l o room) y = absurd (false≢true y)
-rule-happens check k (pair p room) y = absurd (false≢true y)
-rule-happens check k (noPair p f) y = refl
-rule-happens check k (longPlain l o full) y = refl
-rule-happens check k (longPair p full) y = refl
+turn-happens check k count Rest sound y = absurd (false≢true y)
+turn-happens check k count Begin sound y = absurd (false≢true y)
+turn-happens check k count Wait sound y = absurd (false≢true y)
+turn-happens check k count (Keep b) sound y = absurd (false≢true y)
+turn-happens check k count Stop sound y = verdict-happens check k
+turn-happens check k count (Tell why) sound y = sound
 
 pub event-happens : (s : Receiver) (b : ℕ) → hasEvent (turnAt s b) ≡ true → happened (named (outcomeAt s (turnAt s b) .event)) ≡ true
-event-happens s b y = rule-happens (checkOn (s .line)) (soFar s) (turn-rule (s .line) (s .phase) (s .count) b) y
+event-happens s b = turn-happens (checkOn (s .line)) (soFar s) (s .count) (turnAt s b) (sound-at s b)
 
 -- no byte back, none behind the piece, at least one of a piece that has one, and all where nothing is told
 pub record Takes (taken : ℕ) (piece : List ℕ) (said : Said) : Type 0 where
@@ -113,7 +118,7 @@ pub record Takes (taken : ℕ) (piece : List ℕ) (said : Said) : Type 0 where
   pub some : 0 < length piece → taken < said .taken
   pub all : happened (said .event) ≡ false → said .taken ≡ taken + length piece
 
-pub heard-takes : (piece : List ℕ) (taken : ℕ) (s : Receiver) → Takes taken piece (heard taken s piece)
+heard-takes : (piece : List ℕ) (taken : ℕ) (s : Receiver) → Takes taken piece (heard taken s piece)
 heard-takes =
     heard-elim (λ (taken : ℕ) (s : Receiver) (piece : List ℕ) (said : Said). Takes taken piece said)
     (λ taken s. record { least = omega arith; most = omega arith; some = λ h. absurd (omega arith); all = λ q. omega arith })
@@ -132,44 +137,35 @@ heard-takes =
 
 -- of a call that is not refused
 pub received-takes : (s : Receiver) (piece : List ℕ) → badState s ≡ false → Takes 0 piece (received s piece)
-unfolding received
-received-takes s piece good = rw good (heard-takes piece 0 s)
+received-takes s piece good = rw (hears s piece good) (heard-takes piece 0 s)
+
+pub takes-one : (s : Receiver) → badState s ≡ false → (b : ℕ) → received s (b ∷ []) .taken ≡ 1
+takes-one s good b = let t = received-takes s (b ∷ []) good in omega (arith, t .most, t .some (omega arith))
 
 -- ---- what it leaves and carries
 
 -- a receiver that is not refused stays so, so after a fresh one no call is refused
 record Stays (s : Receiver) (said : Said) : Type 0 where
-  count : said .receiver .count ≤ mostContent
-  line : said .receiver .line ≡ s .line
+  leaves : Leaves s (said .receiver)
   carries : said .length ≤ mostContent
 
 heard-stays : (piece : List ℕ) (taken : ℕ) (s : Receiver) → s .count ≤ mostContent → Stays s (heard taken s piece)
 heard-stays =
     heard-elim (λ (taken : ℕ) (s : Receiver) (piece : List ℕ) (said : Said). s .count ≤ mostContent → Stays s said)
-    (λ taken s within. record { count = within; line = refl; carries = zero-le })
+    (λ taken s within. record { leaves = leaves-all s; carries = zero-le })
     (λ taken s b bs y within. record {
-      count = moved-within s b within;
-      line = line-moved s (turnAt s b);
-      carries =
-          omega (
-            arith,
-            outcome-length (checkOn (s .line)) (soFar s) (turnAt s b),
-            length-take (s .count) (s .content),
-            min-le-left (s .count) (length (s .content)),
-          );
+      leaves = leaves-at s b;
+      carries = omega (arith, outcome-length (checkOn (s .line)) (soFar s) (turnAt s b), length-take (s .count) (s .content));
     })
-    (λ taken s b bs said n h within. let r = h (moved-within s b within) in
-    record { count = r .count; line = r .line ∙ line-moved s (turnAt s b); carries = r .carries })
-  where
-    moved-within : (s : Receiver) (b : ℕ) → s .count ≤ mostContent → moved s (turnAt s b) .count ≤ mostContent
-    moved-within s b within = count-moved s (turnAt s b) (room-at s b) within
+    (λ taken s b bs said n h within. let r = h (leaves-at s b .count within) in
+    record { leaves = leaves-then (leaves-at s b) (r .leaves); carries = r .carries })
 
 pub stays-good : (s : Receiver) (piece : List ℕ) → badState s ≡ false → badState (received s piece .receiver) ≡ false
-unfolding received
 stays-good s piece good =
     let parts = or-none (ltb mostContent (s .count)) (not (hasStation (s .line))) good in
-    let r = heard-stays piece 0 s (ltb-false mostContent (s .count) (parts .0)) in
-    rw (good, le-ltb mostContent (heard 0 s piece .receiver .count) (r .count), r .line) (parts .1)
+    let within = ltb-false mostContent (s .count) (parts .0) in
+    let l = heard-stays piece 0 s within .leaves in
+    rw (hears s piece good, le-ltb mostContent (heard 0 s piece .receiver .count) (l .count within), l .line) (parts .1)
 
 -- what an event carries lies within the answer's content
 pub length-within : (s : Receiver) (piece : List ℕ) → received s piece .length ≤ mostContent
@@ -201,7 +197,7 @@ module _ {piece : List ℕ} {first : Receiver} {taken : ℕ} {s : Receiver} (goi
     next-byte none =
         record {
           part = omega arith;
-          fit = fit-moved (going .fit) t (subst⁻¹ (Room (s .count)) is (room-at s (getD piece taken 0)));
+          fit = fit-moved (going .fit) t (subst⁻¹ (Sound (s .count)) is (sound-at s (getD piece taken 0)));
           same = rw (drop-next piece taken more, ← is, none) at (going .same);
         }
 

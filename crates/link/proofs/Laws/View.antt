@@ -2,7 +2,7 @@
 -- the record.
 -- Assumes nothing.
 use mathlib.Core.Path.{_≡_, refl, sym, ap, ap₂, _∙_}
-use mathlib.Core.Bool.{true, false, true≢false}
+use mathlib.Core.Bool.{false, true≢false}
 use mathlib.Core.List.{List, [], _∷_, _++_}
 use Prim.Native.Nat.{ℕ, _+_}
 use native.Mathlib.Numerals.{add-one}
@@ -18,7 +18,7 @@ use Rattle.station.specs.declared.turn.Turn.the-variants.{Rest, Begin, Wait, Ke
 use Rattle.station.specs.Line.{checkOn}
 use Rattle.station.specs.Events.{named, verdict}
 use Rattle.station.specs.Turning.{turn}
-use Rattle.station.proofs.Laws.Turning.{Room}
+use Rattle.station.proofs.Laws.Turning.{Sound}
 use Rattle.link.specs.declared.receiver.Receiver.{Receiver}
 use Rattle.link.specs.Receiving.{soFar, turnAt, moved, hasEvent, outcome, outcomeAt}
 use Rattle.link.specs.Hearing.{Told, note}
@@ -65,15 +65,15 @@ module _ {line : Line} {s : Receiver} (fit : Fit line s) where
   pub turns-seen : (b : ℕ) → turnAt s b ≡ turns line (seen s) b
   turns-seen b = ap₂ (λ (l : Line) (n : ℕ). turn l (s .phase) n b) (fit .on) (sym length-seen)
 
-  pub seen-moved : (t : Turn) → Room (s .count) t → seen (moved s t) ≡ next (seen s) t
+  pub seen-moved : (t : Turn) → Sound (s .count) t → seen (moved s t) ≡ next (seen s) t
   unfolding moved next
-  seen-moved Rest room = refl
-  seen-moved Begin room = refl
-  seen-moved Wait room = refl
-  seen-moved (Keep b) room =
-      ap (view Inside) (rw (add-one (s .count)) (take-suc-set (s .content) (s .count) b (omega (arith, room, fit .sized))))
-  seen-moved Stop room = refl
-  seen-moved (Tell why) room = refl
+  seen-moved Rest sound = refl
+  seen-moved Begin sound = refl
+  seen-moved Wait sound = refl
+  seen-moved (Keep b) sound =
+      ap (view Inside) (rw (add-one (s .count)) (take-suc-set (s .content) (s .count) b (omega (arith, sound, fit .sized))))
+  seen-moved Stop sound = refl
+  seen-moved (Tell why) sound = refl
 
   -- what an event carries is the front part of what was kept
   carried-seen : (check : Check) (t : Turn)

@@ -10,14 +10,15 @@ use lib.ListN.{length}
 use borrow.Author.Tests.{ltb-true, ltb-false, lt-ltb, le-ltb}
 use Rattle.ground.specs.declared.refusal.Refusal.the-variants.{NoRoom, TooLong, BadAddress}
 use Rattle.ground.proofs.Laws.Choice.{cond-elim}
-use Rattle.frames.specs.Frame.{frameWritten}
-use Rattle.frames.proofs.Laws.Frame.{frame-within, frame-over}
-use Rattle.link.specs.Limits.{mostData}
 use Rattle.checks.specs.declared.kind.Check.the-variants.{Fcs}
 use Rattle.wire.specs.Image.{image}
 use Rattle.wire.specs.Writing.{After, refusing, putting, imageWritten}
 use Rattle.wire.proofs.Laws.Stuffing.{plain-is}
+use Rattle.wire.proofs.Laws.Writing.{written-short, written-whole}
 use Rattle.station.specs.Address.{isNever}
+use Rattle.frames.specs.Frame.{frameWritten}
+use Rattle.frames.proofs.Laws.Frame.{frame-within, frame-over}
+use Rattle.link.specs.Limits.{mostData}
 use Rattle.link.specs.Frame.{pointContent, addressedContent}
 use Rattle.link.specs.Writers.{written, pointWritten, addressedWritten, ByTable, tooLong, badAddress, noRoom, frame}
 
@@ -38,13 +39,11 @@ module _ (never : Bool) («data» content out : List ℕ) where
 
   pub refuses-room : length «data» ≤ mostData → never ≡ false → length out < length (image content)
       → written never «data» content out ≡ refusing NoRoom out
-  unfolding imageWritten
-  refuses-room fits good short = goes-on fits good ∙ rw (lt-ltb (length out) (length (image content)) short)
+  refuses-room fits good short = goes-on fits good ∙ written-short content out short
 
   pub writes : length «data» ≤ mostData → never ≡ false → length (image content) ≤ length out
       → written never «data» content out ≡ putting content out
-  unfolding imageWritten
-  writes fits good room = goes-on fits good ∙ rw (le-ltb (length out) (length (image content)) room)
+  writes fits good room = goes-on fits good ∙ written-whole content out room
 
   -- ---- and only then: of the answer that was given, the row's conditions hold
 

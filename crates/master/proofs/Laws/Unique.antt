@@ -4,8 +4,8 @@
 use mathlib.Core.Path.{_≡_, refl, ap}
 use mathlib.Core.List.{List}
 use mathlib.Core.Option.{Option, none, some}
+use mathlib.Mathlib.Logic.Function.Defs.{LeftInverse·injective}
 use Prim.Native.Nat.{ℕ}
-use Rattle.ground.proofs.Laws.Inverse.{injective}
 use Rattle.ground.proofs.Laws.Refusals.{number-injective}
 use Rattle.ground.proofs.Laws.Unique.{same}
 use Rattle.request.specs.Replies.{Reply, ACK, NACK, DATA}
@@ -32,5 +32,6 @@ pub same-reading : («data» : List ℕ) {r s : Reading} {t : Outcome} → telli
 same-reading «data» {r} {s} p q =
     let e : telling «data» r ≡ telling «data» s = same p q in
     let why = number-injective (r .refusal) (s .refusal) (ap (λ (o : Outcome). o .refusal) e) in
-    let meaning = injective (meant «data») caseOf (case-meant «data») (r .meaning) (s .meaning) (ap (λ (o : Outcome). o .meaning) e) in
+    let apart = LeftInverse·injective caseOf (meant «data») (case-meant «data») in
+    let meaning = apart (r .meaning) (s .meaning) (ap (λ (o : Outcome). o .meaning) e) in
     λ i. record { refusal = why i; meaning = meaning i }

@@ -7,21 +7,14 @@ use native.Mathlib.Nat.{div-div-eq-div-mul}
 use native.Mathlib.Omega.{arith}
 use lib.ListN.{length, set, length-append}
 use Rattle.ground.specs.Laying.{laid}
-use Rattle.ground.proofs.Laws.Laying.{laid-more, laid-behind, laid-whole, length-laid, set-laid}
+use Rattle.ground.proofs.Laws.Laying.{laid-behind, laid-whole, set-behind, set-two}
 use Rattle.request.specs.Limits.{headerLength}
 use Rattle.request.specs.Header.{lowFirst, header}
-
--- a byte put behind what was laid
-set-behind : (l : List ℕ) (at : ℕ) (x : List ℕ) (b : ℕ) → at + length x < length l
-    → set (laid l at x) (at + length x) b ≡ laid l at (x ++ (b ∷ []))
-set-behind l at x b h =
-    set-laid (laid l at x) (at + length x) b (rw (length-laid l at x (omega arith)) h) ∙ laid-more l at x (b ∷ []) (omega arith)
 
 pub set-four : (l : List ℕ) (at a b c d : ℕ) → at + 4 ≤ length l
     → set (set (set (set l at a) (at + 1) b) (at + 2) c) (at + 3) d ≡ laid l at (a ∷ b ∷ c ∷ d ∷ [])
 set-four l at a b c d h =
-    ap (λ (m : List ℕ). set (set (set m (at + 1) b) (at + 2) c) (at + 3) d) (set-laid l at a (omega arith))
-    ∙ ap (λ (m : List ℕ). set (set m (at + 2) c) (at + 3) d) (set-behind l at (a ∷ []) b (omega arith))
+    ap (λ (m : List ℕ). set (set m (at + 2) c) (at + 3) d) (set-two l at a b (omega arith))
     ∙ ap (λ (m : List ℕ). set m (at + 3) d) (set-behind l at (a ∷ b ∷ []) c (omega arith))
     ∙ set-behind l at (a ∷ b ∷ c ∷ []) d (omega arith)
 

@@ -1,13 +1,13 @@
 -- Each byte is just one of the four kinds of address, and what follows for stations: computed for all bytes by one test.
 -- Assumes nothing.
-use mathlib.Core.Bool.{Bool, true, false, cond, not, _&&_, _||_, and-eq-true-iff}
+use mathlib.Core.Bool.{Bool, true, false, cond, not, _&&_, _||_, Bool·beq, and-eq-true-iff}
 use mathlib.Core.Path.{_≡_, refl, sym, _∙_}
 use Prim.Native.Nat.{ℕ, _+_, _<_}
 use native.Mathlib.Omega.{arith}
 use lib.Dec.{eqb, leb}
 use lib.ListN.{replicate, getD-replicate}
 use borrow.Author.Tests.{eqb-true, leb-true}
-use Rattle.ground.proofs.Laws.Choice.{cond-elim, cond-not, or-elim}
+use Rattle.ground.proofs.Laws.Choice.{cond-elim, cond-not, or-elim, no-case}
 use Rattle.ground.proofs.Laws.Table.{lists, entry}
 use Rattle.wire.specs.Stuffing.{special}
 use Rattle.wire.proofs.Laws.Stuffing.{plain-is}
@@ -24,19 +24,16 @@ pub one-kind : (a : ℕ) → a < 0x100 → kinds a ≡ 1
 one-kind = each-byte kinds refl
 
 -- two tests agree
-abbrev agree : Bool → Bool → Bool
-agree s t = cond s t (not t)
-
-agree-same : (s t : Bool) → _≡_ {A = ℕ} (cond (agree s t) 1 0) 1 → s ≡ t
-agree-same true true e = refl
-agree-same true false e = absurd (omega arith)
-agree-same false true e = absurd (omega arith)
-agree-same false false e = refl
+beq-same : (s t : Bool) → _≡_ {A = ℕ} (cond (Bool·beq s t) 1 0) 1 → s ≡ t
+beq-same true true e = refl
+beq-same true false e = no-case e
+beq-same false true e = no-case e
+beq-same false false e = refl
 
 -- and so do they at each byte, if they do at all of them
-same-tests : (s t : ℕ → Bool) → lists (λ (b : ℕ). cond (agree (s b) (t b)) 1 0) 0 (replicate 0x100 1) ≡ true
+same-tests : (s t : ℕ → Bool) → lists (λ (b : ℕ). cond (Bool·beq (s b) (t b)) 1 0) 0 (replicate 0x100 1) ≡ true
     → (a : ℕ) → a < 0x100 → s a ≡ t a
-same-tests s t test a h = agree-same (s a) (t a) (each-byte (λ (b : ℕ). cond (agree (s b) (t b)) 1 0) test a h)
+same-tests s t test a h = beq-same (s a) (t a) (each-byte (λ (b : ℕ). cond (Bool·beq (s b) (t b)) 1 0) test a h)
 
 -- what a station may have: all but broadcast and what is never an address
 pub station-is : (a : ℕ) → a < 0x100 → isStation a ≡ not (isBroadcast a) && leb a 0xFC

@@ -1,12 +1,13 @@
 -- An event is known by its name; which of them a stop byte tells goes by the rules' table.
 -- Assumes nothing.
 use mathlib.Core.Path.{_≡_, refl}
+use mathlib.Core.Bool.{true, false}
 use mathlib.Core.List.{List}
-use Prim.Native.Nat.{ℕ, _-_}
+use mathlib.Mathlib.Logic.Function.Defs.{LeftInverse·injective}
+use Prim.Native.Nat.{ℕ, _-_, _≤_, _<_}
 use lib.ListN.{length}
 use borrow.Author.Tests.{ltb-true, ltb-false, lt-ltb, le-ltb}
 use Rattle.ground.proofs.Laws.Choice.{cond-elim}
-use Rattle.ground.proofs.Laws.Inverse.{injective}
 use Rattle.checks.specs.declared.kind.Check as kind
 use Rattle.checks.specs.Check.{checkLength, isRight}
 use Rattle.station.specs.declared.event.Event.{Event}
@@ -36,20 +37,24 @@ eventOf-named Pair = refl
 eventOf-named Addr = refl
 
 pub named-injective : (a b : Event) → named a ≡ named b → a ≡ b
-named-injective = injective named eventOf eventOf-named
+named-injective = LeftInverse·injective eventOf named eventOf-named
 
 module _ (check : kind.Check) (content : List ℕ) where
-  -- ---- the event that a stop byte tells is the table's
-
-  pub verdict-rule : ByStop check content (verdict check content)
+  -- what holds of the three answers, where they are given, holds of what a stop byte tells
+  pub by-stop : (P : Verdict → Type 0)
+      → (length content < leastContent → P (telling Short 0))
+      → (leastContent ≤ length content → isRight check content ≡ false → P (telling Check (length content - checkLength check)))
+      → (leastContent ≤ length content → isRight check content ≡ true → P (telling Frame (length content - checkLength check)))
+      → P (verdict check content)
   unfolding verdict
-  verdict-rule =
-      cond-elim (ByStop check content) (tooShort content)
-      (λ t. short (ltb-true (length content) leastContent t))
+  by-stop P few bad good =
+      cond-elim P (tooShort content) (λ t. few (ltb-true (length content) leastContent t))
       (λ f. let least = ltb-false (length content) leastContent f in
-      cond-elim (λ (e : Event). ByStop check content (telling e (length content - checkLength check))) (isRight check content)
-      (right least)
-      (wrong least))
+      cond-elim (λ (e : Event). P (telling e (length content - checkLength check))) (isRight check content) (good least) (bad least))
+
+  -- so the event that a stop byte tells is the table's
+  pub verdict-rule : ByStop check content (verdict check content)
+  verdict-rule = by-stop (ByStop check content) short wrong right
 
   -- and the table leaves no other answer
   pub verdict-only : {v : Verdict} → ByStop check content v → v ≡ verdict check content

@@ -1,4 +1,4 @@
--- Each of the examples holds: computed from the definitions.
+-- Each row of the table of examples holds of the definitions: antt computes both sides.
 -- Assumes nothing.
 use mathlib.Core.Path.{refl}
 use Rattle.ground.specs.Each.{Each, none, _and_}

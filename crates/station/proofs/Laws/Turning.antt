@@ -1,4 +1,5 @@
--- A receiver's turn follows the table of its rules, and the table leaves no other turn.
+-- A receiver's turn follows the table of its rules, and the table leaves no other turn; a byte that is kept has room, and what is told is an
+-- event.
 -- Assumes nothing.
 use mathlib.Core.Path.{_≡_, refl, _∙_}
 use mathlib.Core.Bool.{Bool, true, false}
@@ -19,15 +20,15 @@ use Rattle.station.specs.declared.phase.Phase.the-variants.{Outside, Ins
 use Rattle.station.specs.declared.turn.Turn.{Turn}
 use Rattle.station.specs.declared.turn.Turn.the-variants.{Rest, Begin, Wait, Keep, Stop, Tell}
 use Rattle.station.specs.Address.{takes}
+use Rattle.station.specs.Events.{named, happened}
 use Rattle.station.specs.Turning.{kept, plain as plainTurn, partner, contentByte, inside, within, turn}
-use Rattle.station.specs.Rules.{Address, Later, ByRule, ignored, begins, stops, address, noAddress, waits, plain, pair, noPair, longPlain, longPair}
+use Rattle.station.specs.Rules.{Address, first, Later, onPoint, behind, ByRule, ignored, begins, stops, address, noAddress, waits, plain, pair, noPair, longPlain, longPair}
 
 -- behind the address the addressed line is like the point line
-later-content : (line : Line) (count b : ℕ) → Later line count → contentByte line count b ≡ plainTurn count b
+later-content : {line : Line} {count : ℕ} (b : ℕ) → Later line count → contentByte line count b ≡ plainTurn count b
 unfolding contentByte
-later-content Point count b later = refl
-later-content (Addressed station) zero b later = absurd later
-later-content (Addressed station) (suc count) b later = rw (eqb·suc-zero count)
+later-content b onPoint = refl
+later-content b (behind {count}) = rw (eqb·suc-zero count)
 
 -- ---- a turn follows the table
 
@@ -59,13 +60,13 @@ module _ (line : Line) (count b : ℕ) where
 
 content-rule : (line : Line) (count b : ℕ) → eqb b start ≡ false → eqb b stop ≡ false → ByRule line count b Inside (contentByte line count b)
 unfolding contentByte kept
-content-rule Point count b f g = plain-rule Point count b tt f g
+content-rule Point count b f g = plain-rule Point count b onPoint f g
 content-rule (Addressed station) zero b f g =
     cond-elim (ByRule (Addressed station) zero b Inside) (takes station b)
-    (λ t. address (eqb-false b start f, eqb-false b stop g, t))
-    (λ t. noAddress (eqb-false b start f, eqb-false b stop g, t))
+    (λ t. address (first (eqb-false b start f) (eqb-false b stop g) t))
+    (λ t. noAddress (first (eqb-false b start f) (eqb-false b stop g) t))
 content-rule (Addressed station) (suc count) b f g =
-    rw (later-content (Addressed station) (suc count) b tt) (plain-rule (Addressed station) (suc count) b tt f g)
+    rw (later-content b (behind {station = station} {count = count})) (plain-rule (Addressed station) (suc count) b behind f g)
 
 within-rule : (line : Line) (phase : Phase) (count b : ℕ) → eqb b start ≡ false → ByRule line count b phase (within line phase count b)
 unfolding within inside
@@ -89,27 +90,21 @@ long-is : (count b : ℕ) → mostContent ≤ count → Tell Long ≡ kept count
 unfolding kept
 long-is count b full = rw (le-ltb count mostContent full)
 
-address-is : (line : Line) (count b : ℕ) → Address line count b true → Keep b ≡ contentByte line count b
+address-is : {line : Line} {count b : ℕ} → Address line count b true → Keep b ≡ contentByte line count b
 unfolding contentByte kept
-address-is Point count b a = absurd a
-address-is (Addressed station) zero b a = rw (a .2)
-address-is (Addressed station) (suc count) b a = absurd a
+address-is (first f g t) = rw t
 
-noAddress-is : (line : Line) (count b : ℕ) → Address line count b false → Tell Addr ≡ contentByte line count b
+noAddress-is : {line : Line} {count b : ℕ} → Address line count b false → Tell Addr ≡ contentByte line count b
 unfolding contentByte
-noAddress-is Point count b a = absurd a
-noAddress-is (Addressed station) zero b a = rw (a .2)
-noAddress-is (Addressed station) (suc count) b a = absurd a
+noAddress-is (first f g t) = rw t
 
-neither : (line : Line) (count b : ℕ) (taken : Bool) → Address line count b taken → (eqb b start ≡ false) × (eqb b stop ≡ false)
-neither Point count b taken a = absurd a
-neither (Addressed station) zero b taken a = (ne-eqb b start (a .0), ne-eqb b stop (a .1))
-neither (Addressed station) (suc count) b taken a = absurd a
+neither : {line : Line} {count b : ℕ} {taken : Bool} → Address line count b taken → (eqb b start ≡ false) × (eqb b stop ≡ false)
+neither {b} (first f g t) = (ne-eqb b start f, ne-eqb b stop g)
 
 plain-turn : (line : Line) (count b : ℕ) → Later line count → special b ≡ false → kept count b ≡ turn line Inside count b
 unfolding turn within inside plainTurn
 plain-turn line count b later other =
-    rw (plain-ne b start other refl, plain-ne b stop other refl, later-content line count b later, plain-ne b 0xFF other refl)
+    rw (plain-ne b start other refl, plain-ne b stop other refl, later-content b later, plain-ne b 0xFF other refl)
 
 pair-turn : (line : Line) (count b : ℕ) → b ≤ 0x02 → kept count (0xFF - b) ≡ turn line Pending count b
 unfolding turn within partner
@@ -120,46 +115,40 @@ unfolding turn within inside plainTurn partner
 rule-only {b} (ignored f) = rw (ne-eqb b start f)
 rule-only (begins e) = rw e
 rule-only (stops e) = rw e
-rule-only {line} {count} {b} (address a) =
-    let n = neither line count b true a in
-    rw (n .0, n .1) (address-is line count b a)
-rule-only {line} {count} {b} (noAddress a) =
-    let n = neither line count b false a in
-    rw (n .0, n .1) (noAddress-is line count b a)
-rule-only {line} {count} (waits later e) = rw (e, later-content line count 0xFF later)
+rule-only (address a) = rw (neither a .0, neither a .1) (address-is a)
+rule-only (noAddress a) = rw (neither a .0, neither a .1) (noAddress-is a)
+rule-only (waits later e) = rw (e, later-content 0xFF later)
 rule-only {line} {count} {b} (plain later other room) = kept-is count b room ∙ plain-turn line count b later other
 rule-only {line} {count} {b} (pair known room) = kept-is count (0xFF - b) room ∙ pair-turn line count b known
 rule-only {b} (noPair over f) = rw (ne-eqb b start f, lt-leb b 0x02 over)
 rule-only {line} {count} {b} (longPlain later other full) = long-is count b full ∙ plain-turn line count b later other
 rule-only {line} {count} {b} (longPair known full) = long-is count (0xFF - b) full ∙ pair-turn line count b known
 
--- ---- room for a byte that is kept
+-- ---- a byte that is kept has room, and what is told is an event
 
-abbrev pub Room : ℕ → Turn → Type 0
-Room count Rest = Unit {0}
-Room count Begin = Unit {0}
-Room count Wait = Unit {0}
-Room count (Keep b) = count < mostContent
-Room count Stop = Unit {0}
-Room count (Tell why) = Unit {0}
+abbrev pub Sound : ℕ → Turn → Type 0
+Sound count Rest = Unit {0}
+Sound count Begin = Unit {0}
+Sound count Wait = Unit {0}
+Sound count (Keep b) = count < mostContent
+Sound count Stop = Unit {0}
+Sound count (Tell why) = happened (named why) ≡ true
 
-pub address-room : (line : Line) (count b : ℕ) → Address line count b true → count < mostContent
-address-room Point count b a = absurd a
-address-room (Addressed station) zero b a = lit≤ tt
-address-room (Addressed station) (suc count) b a = absurd a
+pub address-room : {line : Line} {count b : ℕ} → Address line count b true → count < mostContent
+address-room (first f g t) = lit≤ tt
 
-rule-room : {line : Line} {phase : Phase} {count b : ℕ} {t : Turn} → ByRule line count b phase t → Room count t
-rule-room (ignored f) = tt
-rule-room (begins e) = tt
-rule-room (stops e) = tt
-rule-room {line} {count} {b} (address a) = address-room line count b a
-rule-room (noAddress a) = tt
-rule-room (waits later e) = tt
-rule-room (plain later other room) = room
-rule-room (pair known room) = room
-rule-room (noPair over f) = tt
-rule-room (longPlain later other full) = tt
-rule-room (longPair known full) = tt
+rule-sound : {line : Line} {phase : Phase} {count b : ℕ} {t : Turn} → ByRule line count b phase t → Sound count t
+rule-sound (ignored f) = tt
+rule-sound (begins e) = tt
+rule-sound (stops e) = tt
+rule-sound (address a) = address-room a
+rule-sound (noAddress a) = refl
+rule-sound (waits later e) = tt
+rule-sound (plain later other room) = room
+rule-sound (pair known room) = room
+rule-sound (noPair over f) = refl
+rule-sound (longPlain later other full) = refl
+rule-sound (longPair known full) = refl
 
-pub turn-room : (line : Line) (phase : Phase) (count b : ℕ) → Room count (turn line phase count b)
-turn-room line phase count b = rule-room (turn-rule line phase count b)
+pub turn-sound : (line : Line) (phase : Phase) (count b : ℕ) → Sound count (turn line phase count b)
+turn-sound line phase count b = rule-sound (turn-rule line phase count b)

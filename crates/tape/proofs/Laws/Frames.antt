@@ -16,8 +16,9 @@ use Rattle.link.specs.Receiving.{Said, badState, received}
 use Rattle.link.specs.Hearing.{Told, toldAt, note, IsFresh, Hearing, over}
 use Rattle.link.specs.Listing.{Lists}
 use Rattle.link.proofs.Laws.Receiving.{stays-good}
+use Rattle.link.proofs.Laws.Bytes.{note-some, note-none, hearing-byte}
+use Rattle.link.proofs.Laws.Fresh.{fresh-point, fresh-station, fresh-good}
 use Rattle.link.proofs.Laws.Demand.{hearing-lists}
-use Rattle.link.proofs.Laws.Hearing.{fresh-point, fresh-station, fresh-good, note-some, note-none, hearing-byte}
 use Rattle.lines.specs.declared.side.Side.{Side}
 use Rattle.lines.specs.declared.side.Side.the-variants.{Point, Addressed}
 use Rattle.tape.specs.declared.receivers.Receivers.{Receivers}

@@ -8,14 +8,10 @@ use Prim.Native.Nat.{ℕ, zero, suc, _+_, _*_, _-_, _/_, _%_, _≤_, _<_, zero-l
 use native.Mathlib.Omega.{arith}
 use borrow.Author.Tests.{eqb-true, eqb-false, eq-eqb, ne-eqb}
 use lib.Dec.{eqb}
-use lib.ListN.{length, take, drop, set, length-append}
-use lib.Seq.{set-split, drop-at, length-take-le}
+use lib.ListN.{length, drop, set, length-append}
 use Rattle.ground.proofs.Laws.Choice.{cond-elim}
+use Rattle.ground.proofs.Laws.Lists.{drop-set}
 use Rattle.text.specs.Decimal.{digit, spelled, mostDigits, decimal, value}
-
--- a digit put before those that stand
-drop-set : (l : List ℕ) (k d : ℕ) → k < length l → drop k (set l k d) ≡ d ∷ drop (suc k) l
-drop-set l k d h = ap (drop k) (set-split l k d h) ∙ drop-at (take k l) (d ∷ drop (suc k) l) k (length-take-le k l (omega arith))
 
 -- with one digit more there are as many to come
 pub spelled-on : (from n : ℕ) (text : List ℕ) → 0 < from → from ≤ length text → n / 10 ≢ 0

@@ -9,7 +9,7 @@ use Rattle.ground.specs.Laying.{laid}
 use Rattle.ground.proofs.Laws.Laying.{laid-next, laid-more}
 use Rattle.text.specs.Hex.{dash, dot, pair, further, pairs}
 
-pub length-further : (l : List ℕ) → length (further l) ≡ 3 * length l
+length-further : (l : List ℕ) → length (further l) ≡ 3 * length l
 unfolding further
 length-further [] = refl
 length-further (b ∷ bs) = let h : length (further bs) ≡ 3 * length bs = length-further bs in omega arith

@@ -1,18 +1,13 @@
--- Laws of the wire image.
+-- Laws of the wire image: how long it is.
 -- Assumes nothing.
-use mathlib.Core.Path.{_≡_, _∙_}
-use mathlib.Core.List.{List, [], _∷_, _++_}
-use Prim.Native.Nat.{ℕ, _+_, _*_, _≤_, _<_}
+use mathlib.Core.Path.{_≡_}
+use mathlib.Core.List.{List}
+use Prim.Native.Nat.{ℕ, _+_, _*_, _≤_}
 use native.Mathlib.Omega.{arith}
-use lib.ListN.{length, drop, set, length-append, length-set}
-use borrow.Author.Tests.{lt-ltb, le-ltb}
-use Rattle.ground.specs.declared.refusal.Refusal.the-variants.{TooLong}
-use Rattle.ground.specs.Laying.{laid}
-use Rattle.ground.proofs.Laws.Laying.{laid-more, laid-next, laid-front, length-laid, set-laid}
-use Rattle.wire.specs.Limits.{mostContent}
+use lib.ListN.{length, length-append}
+use Rattle.wire.specs.Limits.{mostContent, mostImage}
 use Rattle.wire.specs.Stuffing.{stuffing}
-use Rattle.wire.specs.Image.{start, stop, image, imageLength}
-use Rattle.wire.specs.Writing.{refusing, imageWritten, imageAsked}
+use Rattle.wire.specs.Image.{image, imageLength}
 use Rattle.wire.proofs.Laws.Stuffing.{length-stuffing, specials-most}
 
 -- the image is as long as its length says
@@ -20,24 +15,9 @@ pub length-image : (content : List ℕ) → length (image content) ≡ imageLeng
 unfolding image imageLength
 length-image content = simp length-append (omega (arith, length-stuffing content))
 
-pub room-behind : (content : List ℕ) → imageLength content ≡ 2 + length (stuffing content)
+pub imageLength-stuffing : (content : List ℕ) → imageLength content ≡ 2 + length (stuffing content)
 unfolding imageLength
-room-behind content = omega (arith, length-stuffing content)
-
--- start, then the stuffing in the room behind it, then stop: the image stands in front
-pub image-laid : (content out : List ℕ) → length (image content) ≤ length out
-    → set (laid (set out 0 start) 1 (stuffing content)) (1 + length (stuffing content)) stop
-    ≡ image content ++ drop (length (image content)) out
-unfolding image
-image-laid content out h =
-    let S = stuffing content in
-    let room : 2 + length S ≤ length out = omega (arith, room-behind content, length-image content) in
-    let out₁ : List ℕ = set out 0 start in
-    let same : length out₁ ≡ length out = length-set out 0 start in
-    set-laid (laid out₁ 1 S) (1 + length S) stop (rw (length-laid out₁ 1 S (omega arith)) (omega arith))
-    ∙ laid-more out₁ 1 S (stop ∷ []) (omega arith)
-    ∙ laid-next out 0 start (S ++ (stop ∷ [])) (omega arith)
-    ∙ laid-front out (start ∷ S ++ (stop ∷ []))
+imageLength-stuffing content = omega (arith, length-stuffing content)
 
 -- no image is longer than twice its content, and start and stop
 pub most-image : (content : List ℕ) → length (image content) ≤ 2 + 2 * length content
@@ -45,18 +25,5 @@ unfolding imageLength
 most-image content = omega (arith, length-image content, specials-most content)
 
 -- so this much room holds the image of every content within the limit
-abbrev pub roomForAny : ℕ
-roomForAny = 2 + 2 * mostContent
-
-pub room-for-any : (content : List ℕ) → length content ≤ mostContent → length (image content) ≤ roomForAny
+pub room-for-any : (content : List ℕ) → length content ≤ mostContent → length (image content) ≤ mostImage
 room-for-any content within = omega (arith, most-image content)
-
--- where the content is within the limit, only the room for its image is asked
-pub asked-within : (content out : List ℕ) → length content ≤ mostContent → imageAsked content out ≡ imageWritten content out
-unfolding imageAsked
-asked-within content out within = rw (le-ltb mostContent (length content) within)
-
--- and where it is over the limit it is refused
-pub asked-over : (content out : List ℕ) → mostContent < length content → imageAsked content out ≡ refusing TooLong out
-unfolding imageAsked
-asked-over content out over = rw (lt-ltb mostContent (length content) over)

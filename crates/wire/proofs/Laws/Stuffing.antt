@@ -2,7 +2,7 @@
 -- Assumes nothing.
 use mathlib.Core.Path.{_≡_, refl, sym, ap, _∙_, subst}
 use mathlib.Core.Bool.{true, false, cond, true≢false}
-use mathlib.Core.List.{List, [], _∷_, _++_, append-assoc, List·Memᴰ, List·Memᴰ·not-nil, List·Memᴰ·cases-cons, List·Memᴰ·append-cases}
+use mathlib.Core.List.{List, [], _∷_, _++_, append-assoc, List·Memᴰ, List·Memᴰ·not-nil, List·Memᴰ·cases-cons, List·Memᴰ·append-cases, List·Memᴰ·eq-of-singleton}
 use mathlib.Core.Logic.{⊎-elim}
 use Prim.Native.Nat.{ℕ, _+_, _-_, _≤_, _<_, zero-le}
 use native.Mathlib.Nat.{zero-add}
@@ -10,7 +10,7 @@ use native.Mathlib.Decide.{decLe}
 use native.Mathlib.Omega.{arith}
 use lib.Dec.{eqb, lit≤}
 use lib.ListN.{length, length-append}
-use borrow.Author.Tests.{ne-eqb, eqb-true}
+use borrow.Author.Tests.{ne-eqb, eqb-true, eqb-false}
 use Rattle.ground.proofs.Laws.Choice.{cond-elim}
 use Rattle.wire.specs.Stuffing.{stuffed, stuffing, special, specials}
 use Rattle.wire.specs.Image.{start, stop}
@@ -62,6 +62,12 @@ pub stuffed-special : (b : ℕ) → 0xFD ≤ b → b < 0x100 → stuffed b ≡ 0
 unfolding stuffed
 stuffed-special b least most = by-special (λ (n : ℕ). stuffed n ≡ 0xFF ∷ (0xFF - n) ∷ []) b least most refl refl refl
 
+-- so FF and its partner are such a byte, stuffed
+pub stuffed-partner : (p : ℕ) → p ≤ 0x02 → stuffed (0xFF - p) ≡ 0xFF ∷ p ∷ []
+stuffed-partner p known =
+    let back : 0xFF - (0xFF - p) ≡ p = omega arith in
+    rw back at (stuffed-special (0xFF - p) (omega arith) (omega arith))
+
 -- one content behind the other
 pub stuffing-append : (k l : List ℕ) → stuffing (k ++ l) ≡ stuffing k ++ stuffing l
 unfolding stuffing
@@ -98,23 +104,18 @@ length-stuffing (b ∷ bs) = simp length-append (omega (arith, length-stuffed b,
 abbrev pub NeitherStartNorStop : ℕ → Type 0
 NeitherStartNorStop b = (b ≡ start → ⊥) × (b ≡ stop → ⊥)
 
+pub plain-neither : (b : ℕ) → special b ≡ false → NeitherStartNorStop b
+plain-neither b plain = (eqb-false b start (plain-ne b start plain refl), eqb-false b stop (plain-ne b stop plain refl))
+
 pair-neither : (p : ℕ) → p ≤ 0x02 → (x : ℕ) → List·Memᴰ x (0xFF ∷ p ∷ []) → NeitherStartNorStop x
 pair-neither p h x m =
-    ⊎-elim (λ e. omega arith)
-    (λ n. ⊎-elim (λ e. omega arith) (λ o. absurd (List·Memᴰ·not-nil o)) (List·Memᴰ·cases-cons n))
-    (List·Memᴰ·cases-cons m)
-
-plain-neither : (b : ℕ) → special b ≡ false → (x : ℕ) → List·Memᴰ x (b ∷ []) → NeitherStartNorStop x
-plain-neither b plain x m =
-    ⊎-elim
-    (λ e. (λ s. true≢false (sym (ap special (sym e ∙ s)) ∙ plain), λ s. true≢false (sym (ap special (sym e ∙ s)) ∙ plain)))
-    (λ o. absurd (List·Memᴰ·not-nil o))
-    (List·Memᴰ·cases-cons m)
+    ⊎-elim (λ e. omega arith) (λ n. let e = List·Memᴰ·eq-of-singleton n in omega arith) (List·Memᴰ·cases-cons m)
 
 stuffed-neither : (b x : ℕ) → List·Memᴰ x (stuffed b) → NeitherStartNorStop x
 stuffed-neither =
     by-stuffed (λ (b : ℕ) (l : List ℕ). (x : ℕ) → List·Memᴰ x l → NeitherStartNorStop x)
-    (pair-neither 0x02 (lit≤ tt)) (pair-neither 0x01 (lit≤ tt)) (pair-neither 0x00 (lit≤ tt)) plain-neither
+    (pair-neither 0x02 (lit≤ tt)) (pair-neither 0x01 (lit≤ tt)) (pair-neither 0x00 (lit≤ tt))
+    (λ b plain x m. rw (List·Memᴰ·eq-of-singleton m) (plain-neither b plain))
 
 -- stuffing has no FD and no FE in it
 pub stuffing-neither : (content : List ℕ) (x : ℕ) → List·Memᴰ x (stuffing content) → NeitherStartNorStop x

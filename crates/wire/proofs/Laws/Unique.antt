@@ -7,7 +7,7 @@ use Rattle.ground.specs.declared.refusal.Counted.{Counted}
 use Rattle.ground.proofs.Laws.Unique.{same, same-answer}
 use Rattle.wire.specs.Writing.{After, after}
 
--- of a call that writes to a lent buffer besides
+-- of a call that answers a count or a refusal, and writes to a lent buffer
 pub same-after : {r s : Counted} {o p : List ℕ} {t : After} → after r o ≡ t → after s p ≡ t → (r ≡ s) × (o ≡ p)
 same-after {r} {s} {o} {p} e f =
     let both : after r o ≡ after s p = same e f in

@@ -30,11 +30,11 @@ unfolding entry end
 content-is c =
     let d = c .before .before .before in
     let a = entry c .args in
-    withCheck-laid _ (entry c .args .check) (entry c .args .head .now) (entry c .args .«data» .now)
+    withCheck-laid _ (a .check) (a .head .now) (a .«data» .now)
     (put-laid (a .head .now) _ 0 (d .before .before .before .before .before .before .put .ensures) (omega (arith, entry c .pre)))
     (put-laid (a .«data» .now) _ (length (a .head .now)) (d .before .before .before .put2 .ensures) (omega (arith, entry c .pre)))
     (d .lay-check .ensures)
-    (ap (λ (n : ℕ). length (entry c .args .head .now) + length (entry c .args .«data» .now) + n) (c .before .check-length .ensures))
+    (ap (λ (n : ℕ). length (a .head .now) + length (a .«data» .now) + n) (c .before .check-length .ensures))
 
 length-is : (c : tie.After-content7)
     → length (take (end c) (c .before .before .before .lay-check .last .1 .0))

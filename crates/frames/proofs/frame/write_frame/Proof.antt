@@ -1,11 +1,8 @@
 -- `frame::write_frame` meets its contract: what the two tests let pass is a content within the limit.
 -- Assumes nothing.
-use mathlib.Core.Path.{sym, ap, _∙_}
 use native.Mathlib.Omega.{arith}
 use borrow.Author.Needs.{needs}
-use Rattle.ground.specs.Refusals.{Answer}
 use Rattle.checks.proofs.Laws.Check.{check-most}
-use Rattle.wire.specs.Writing.{leaving}
 use Rattle.frames.proofs.Laws.Frame.{frame-over}
 use Rattle.frames.proofs.frame.write_frame.Statement.{statement}
 use Rattle.frames.proofs.frame.write_frame.Tie as tie
@@ -22,9 +19,8 @@ refused-requires c κs = search needs
 returns : tie.Need-returns
 returns c =
     let a = c .before .before .before .before .before .before .args in
-    ap (λ (w : Answer). leaving w (a .out .now)) (c .refused .ensures)
-    ∙ sym (frame-over (a .check) (a .head .now) (a .«data» .now) (a .out .now)
-    (omega (arith, c .before .before .check-length .ensures)))
+    let length = c .before .before .check-length .ensures in
+    rw (c .refused .ensures, frame-over (a .check) (a .head .now) (a .«data» .now) (a .out .now) (omega arith))
 
 sub-if2 : tie.Need-sub-if2
 sub-if2 c = search needs
@@ -35,9 +31,8 @@ refused-requires-2 c κs = search needs
 returns-2 : tie.Need-returns-2
 returns-2 c =
     let a = c .before .before .before .before .before .before .before .args in
-    ap (λ (w : Answer). leaving w (a .out .now)) (c .refused2 .ensures)
-    ∙ sym (frame-over (a .check) (a .head .now) (a .«data» .now) (a .out .now)
-    (omega (arith, c .before .before .before .check-length .ensures)))
+    let length = c .before .before .before .check-length .ensures in
+    rw (c .refused2 .ensures, frame-over (a .check) (a .head .now) (a .«data» .now) (a .out .now) (omega arith))
 
 lay-frame-requires : tie.Need-lay-frame-requires
 lay-frame-requires c κs =

@@ -1,12 +1,9 @@
 -- `laying::put` meets its contract: it refuses as the definition does, and else lays the bytes.
 -- Assumes nothing.
-use mathlib.Core.Path.{sym, ap, _∙_}
-use mathlib.Core.List.{List}
-use Prim.Native.Nat.{ℕ, _+_}
+use mathlib.Core.Path.{refl, sym, _∙_}
 use native.Mathlib.Omega.{arith}
 use borrow.Author.Needs.{needs}
-use lib.ListN.{length}
-use Rattle.ground.proofs.Laws.Laying.{put-refused, put-placed}
+use Rattle.ground.proofs.Laws.Laying.{put-refused, put-placed, placed-is}
 use Rattle.ground.proofs.laying.put.Statement.{statement}
 use Rattle.ground.proofs.laying.put.Tie as tie
 
@@ -34,7 +31,7 @@ returns-2 : tie.Need-returns-2
 returns-2 c =
     let d = c .before .before in
     let a = d .before .before .before .before .before .before .before .args in
-    ap (λ (l : List ℕ). record { refusal = 0; end = a .at + length (a .bytes .now); out = l }) (d .lay .ensures)
+    placed-is (a .bytes .now) (a .out .now) (a .at) refl (d .lay .ensures)
     ∙ sym (put-placed (a .bytes .now) (a .out .now) (a .at) (omega arith))
 
 pub put-spec : {M : Type 1} → statement M

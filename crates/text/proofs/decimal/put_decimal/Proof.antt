@@ -5,9 +5,9 @@ use mathlib.Core.Logic.{⊎-elim}
 use mathlib.Core.List.{List, _++_, append-nil}
 use Prim.Native.Nat.{ℕ, _-_, _≤_}
 use native.Mathlib.Omega.{arith}
-use lib.ListN.{length, drop, length-set, length-drop}
-use lib.Seq.{take-all}
+use lib.ListN.{length, drop, length-set}
 use Rattle.ground.specs.Laying.{put}
+use Rattle.ground.proofs.Laws.Lists.{take-rest}
 use Rattle.text.specs.Decimal.{mostDigits, spelled, decimal}
 use Rattle.text.proofs.Laws.Decimal.{spelled-on, spelled-first, spelled-none}
 use Rattle.text.proofs.decimal.put_decimal.Statement.{statement}
@@ -81,9 +81,8 @@ returns c =
     let r = c .before .before .before .before .before .before in
     let t = r .before .loop-test in
     let a = r .before .before .before .before .args in
-    let h : length (drop (t .from) (t .text)) ≤ 20 - t .from = simp length-drop (omega (arith, ends r .1)) in
-    c .before .before .put .ensures
-    ∙ ap (λ (l : List ℕ). put l (a .out .now) (a .at)) (take-all (20 - t .from) (drop (t .from) (t .text)) h ∙ ends r .2)
+    let all = rw (ends r .1) at (take-rest (t .text) (t .from)) in
+    c .before .before .put .ensures ∙ ap (λ (l : List ℕ). put l (a .out .now) (a .at)) (all ∙ ends r .2)
 
 pub put-decimal-spec : {M : Type 1} → statement M
 put-decimal-spec =

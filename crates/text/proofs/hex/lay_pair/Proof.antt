@@ -2,12 +2,12 @@
 -- Assumes nothing.
 use mathlib.Core.Path.{ap₂, _∙_}
 use mathlib.Core.List.{[], _∷_}
-use Prim.Native.Nat.{ℕ, _+_}
+use Prim.Native.Nat.{ℕ}
 use native.Mathlib.Omega.{arith}
 use borrow.Author.Needs.{needs}
-use lib.ListN.{set, length-set}
+use lib.ListN.{length-set}
 use Rattle.ground.specs.Laying.{laid}
-use Rattle.ground.proofs.Laws.Laying.{set-laid, laid-next}
+use Rattle.ground.proofs.Laws.Laying.{set-two}
 use Rattle.text.proofs.hex.lay_pair.Statement.{statement}
 use Rattle.text.proofs.hex.lay_pair.Tie as tie
 
@@ -32,8 +32,7 @@ same-length c = search needs
 returns : tie.Need-returns
 returns c =
     let a = c .before .before .before .args in
-    set-laid (set (a .out .now) (a .at) (c .before .digit .result)) (a .at + 1) (c .digit2 .result) (simp length-set (omega arith))
-    ∙ laid-next (a .out .now) (a .at) (c .before .digit .result) (c .digit2 .result ∷ []) (omega arith)
+    set-two (a .out .now) (a .at) (c .before .digit .result) (c .digit2 .result) (omega arith)
     ∙ ap₂ (λ (x y : ℕ). laid (a .out .now) (a .at) (x ∷ y ∷ [])) (c .before .digit .ensures) (c .digit2 .ensures)
 
 pub lay-pair-spec : {M : Type 1} → statement M

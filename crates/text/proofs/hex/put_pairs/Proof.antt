@@ -1,12 +1,12 @@
 -- `hex::put_pairs` meets its contract: none are put as a dash, and more where three places for each pair but one are left.
 -- Assumes nothing.
-use mathlib.Core.Path.{sym, ap, ap₂, _∙_}
+use mathlib.Core.Path.{sym, ap, _∙_}
 use mathlib.Core.List.{List}
-use Prim.Native.Nat.{ℕ, _+_}
+use Prim.Native.Nat.{ℕ}
 use native.Mathlib.Omega.{arith}
 use borrow.Author.Needs.{needs}
 use Rattle.ground.specs.Laying.{put}
-use Rattle.ground.proofs.Laws.Laying.{put-refused, put-placed}
+use Rattle.ground.proofs.Laws.Laying.{put-refused, put-placed, placed-is}
 use Rattle.text.specs.Hex.{pairs}
 use Rattle.text.proofs.Laws.Hex.{length-pairs, pairs-none}
 use Rattle.text.proofs.hex.put_pairs.Statement.{statement}
@@ -61,7 +61,7 @@ returns-3 c =
     let d = c .before .before in
     let a = d .before .before .before .before .before .before .before .before .args in
     let e = length-pairs (a .bytes .now) (omega arith) in
-    ap₂ (λ (n : ℕ) (l : List ℕ). record { refusal = 0; end = a .at + n; out = l }) (sym e) (d .lay-pairs .ensures)
+    placed-is (pairs (a .bytes .now)) (a .out .now) (a .at) (omega arith) (d .lay-pairs .ensures)
     ∙ sym (put-placed (pairs (a .bytes .now)) (a .out .now) (a .at) (omega arith))
 
 pub put-pairs-spec : {M : Type 1} → statement M

@@ -2,49 +2,45 @@
 -- Assumes nothing.
 use mathlib.Core.Path.{_≡_, sym, ap, ap₂, _∙_}
 use mathlib.Core.List.{List}
-use Prim.Native.Nat.{ℕ, _+_, _-_, _≤_, _<_}
+use Prim.Native.Nat.{ℕ, _+_, _-_, _≤_}
 use native.Mathlib.Omega.{arith}
-use borrow.Author.Tests.{lt-ltb, le-ltb}
 use borrow.Rule.Slice.PartMut.{putMid}
 use lib.ListN.{length, set, length-set, length-take, length-drop}
 use borrow.Author.Needs.{needs}
 use Rattle.ground.specs.Laying.{laid}
-use Rattle.ground.specs.Refusals.{Answer, counted}
+use Rattle.ground.specs.Refusals.{counted}
 use Rattle.ground.proofs.Laws.Laying.{laid-part, length-laid}
 use Rattle.wire.specs.Stuffing.{stuffing}
 use Rattle.wire.specs.Image.{start, stop, image}
-use Rattle.wire.specs.Writing.{leaving, imageWritten}
-use Rattle.wire.proofs.Laws.Image.{length-image, room-behind, image-laid}
+use Rattle.wire.specs.Writing.{leaving}
+use Rattle.wire.proofs.Laws.Image.{length-image, imageLength-stuffing}
+use Rattle.wire.proofs.Laws.Writing.{image-laid, written-short, written-whole}
 use Rattle.wire.proofs.image.lay_image.Statement.{statement}
 use Rattle.wire.proofs.image.lay_image.Tie as tie
 
 -- there is room for start, stuffing and stop
-room : (c : tie.Else1)
-    → 2 + length (stuffing (c .before .before .before .before .args .content .now)) ≤ length (c .before .before .before .before .args .out .now)
-room c =
-    let d = c .before .before .before .before in
-    omega (arith, room-behind (d .args .content .now))
+room : (c : tie.Else1) → let a = c .before .before .before .before .args in 2 + length (stuffing (a .content .now)) ≤ length (a .out .now)
+room c = omega (arith, imageLength-stuffing (c .before .before .before .before .args .content .now))
 
--- when the part lent for the stuffing is back, the stuffing stands behind start
-back : (c : tie.After-slice-known2)
-    → let d = c .before .before .before .before .before .before .before .before in
-    let out₁ = set (d .args .out .now) 0 start in
-    putMid 1 (length out₁ - 1) out₁ (c .before .before .stuff .last .1 .0) ≡ laid out₁ 1 (stuffing (d .args .content .now))
-back c =
-    let d = c .before .before .before .before .before .before .before .before in
-    let out₁ = set (d .args .out .now) 0 start in
-    ap (putMid 1 (length out₁ - 1) out₁) (c .before .before .stuff .ensures .1)
-    ∙ laid-part out₁ 1 (stuffing (d .args .content .now)) (simp length-set (omega (arith, room (c .before .before .before .before))))
+-- from the place where the part lent for the stuffing is back: the call's entry, the buffer with start in it, and with that part too
+abbrev entry : tie.After-slice-known2 → tie.Start
+entry c = c .before .before .before .before .before .before .before .before
 
-length-back : (c : tie.After-slice-known2)
-    → let d = c .before .before .before .before .before .before .before .before in
-    let out₁ = set (d .args .out .now) 0 start in
-    length (putMid 1 (length out₁ - 1) out₁ (c .before .before .stuff .last .1 .0)) ≡ length (d .args .out .now)
-length-back c =
-    let d = c .before .before .before .before .before .before .before .before in
-    ap length (back c)
-    ∙ length-laid _ 1 _ (simp length-set (omega (arith, room (c .before .before .before .before))))
-    ∙ length-set (d .args .out .now) 0 start
+abbrev begun : tie.After-slice-known2 → List ℕ
+begun c = set (entry c .args .out .now) 0 start
+
+abbrev whole : tie.After-slice-known2 → List ℕ
+whole c = putMid 1 (length (begun c) - 1) (begun c) (c .before .before .stuff .last .1 .0)
+
+fits : (c : tie.After-slice-known2) → 1 + length (stuffing (entry c .args .content .now)) ≤ length (begun c)
+fits c = simp length-set (omega (arith, room (c .before .before .before .before)))
+
+-- the stuffing stands behind start
+back : (c : tie.After-slice-known2) → whole c ≡ laid (begun c) 1 (stuffing (entry c .args .content .now))
+back c = ap (putMid 1 (length (begun c) - 1) (begun c)) (c .before .before .stuff .ensures .1) ∙ laid-part (begun c) 1 _ (fits c)
+
+length-back : (c : tie.After-slice-known2) → length (whole c) ≡ length (entry c .args .out .now)
+length-back c = ap length (back c) ∙ length-laid (begun c) 1 _ (fits c) ∙ length-set (entry c .args .out .now) 0 start
 
 wire-length-requires : tie.Need-wire-length-requires
 wire-length-requires c κs = search needs
@@ -53,11 +49,9 @@ refused-requires : tie.Need-refused-requires
 refused-requires c κs = search needs
 
 returns : tie.Need-returns
-unfolding imageWritten
 returns c =
-    let d = c .before .before .before .before .before in
-    let h : length (d .args .out .now) < length (image (d .args .content .now)) = omega (arith, length-image (d .args .content .now)) in
-    simp (lt-ltb _ _ h) (ap (λ (a : Answer). leaving a (d .args .out .now)) (c .refused .ensures))
+    let a = c .before .before .before .before .before .args in
+    rw (c .refused .ensures, written-short (a .content .now) (a .out .now) (omega (arith, length-image (a .content .now))))
 
 slice-write-out : tie.Need-slice-write-out
 slice-write-out c = omega (arith, room c)
@@ -88,16 +82,15 @@ same-length : tie.Need-same-length
 same-length c = rw (length-set _ _ stop) (length-back (c .before))
 
 returns-2 : tie.Need-returns-2
-unfolding imageWritten
 returns-2 c =
-    let d = c .before .before .before .before .before .before .before .before .before in
-    let content = d .args .content .now in
-    let h : length (image content) ≤ length (d .args .out .now) = omega (arith, length-image content) in
-    simp (le-ltb _ _ h)
+    let content = entry (c .before) .args .content .now in
+    let out = entry (c .before) .args .out .now in
+    let h : length (image content) ≤ length out = omega (arith, length-image content) in
+    rw (written-whole content out h)
     (ap₂ leaving
     (c .of .ensures ∙ ap counted (c .before .before .before .before .before .before .wire-length .ensures ∙ sym (length-image content)))
     (ap₂ (λ (l : List ℕ) (k : ℕ). set l (1 + k) stop) (back (c .before)) (c .before .before .before .stuff .ensures .0)
-    ∙ image-laid content (d .args .out .now) h))
+    ∙ image-laid content out h))
 
 pub lay-image-spec : {M : Type 1} → statement M
 lay-image-spec =

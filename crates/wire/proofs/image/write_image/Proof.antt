@@ -1,11 +1,9 @@
 -- `image::write_image` meets its contract, by the test on the limit.
 -- Assumes nothing.
-use mathlib.Core.Path.{sym, ap, _∙_}
+use mathlib.Core.Path.{sym, _∙_}
 use native.Mathlib.Omega.{arith}
 use borrow.Author.Needs.{needs}
-use Rattle.ground.specs.Refusals.{Answer}
-use Rattle.wire.specs.Writing.{leaving}
-use Rattle.wire.proofs.Laws.Image.{asked-within, asked-over}
+use Rattle.wire.proofs.Laws.Writing.{asked-within, asked-over}
 use Rattle.wire.proofs.image.write_image.Statement.{statement}
 use Rattle.wire.proofs.image.write_image.Tie as tie
 
@@ -26,7 +24,7 @@ refused-requires c κs = search needs
 returns-2 : tie.Need-returns-2
 returns-2 c =
     let a = c .before .before .before .before .args in
-    ap (λ (w : Answer). leaving w (a .out .now)) (c .refused .ensures) ∙ sym (asked-over (a .content .now) (a .out .now) (omega arith))
+    rw (c .refused .ensures, asked-over (a .content .now) (a .out .now) (omega arith))
 
 pub write-image-spec : {M : Type 1} → statement M
 write-image-spec =

@@ -1,12 +1,12 @@
 -- `stuffing::stuff_byte` meets its contract: a byte below FD stands for itself, any other is FF and its distance from FF.
 -- Assumes nothing.
-use mathlib.Core.Path.{_≡_, ap, _∙_}
+use mathlib.Core.Path.{_≡_, ap}
 use mathlib.Core.List.{[], _∷_}
 use Prim.Native.Nat.{_-_}
 use native.Mathlib.Omega.{arith}
 use borrow.Author.Needs.{needs}
 use lib.ListN.{length, length-set}
-use Rattle.ground.proofs.Laws.Laying.{set-laid, laid-next}
+use Rattle.ground.proofs.Laws.Laying.{set-laid, set-two}
 use Rattle.wire.specs.Stuffing.{stuffed}
 use Rattle.wire.proofs.Laws.Stuffing.{stuffed-plain, stuffed-special}
 use Rattle.wire.proofs.stuffing.stuff_byte.Statement.{statement}
@@ -49,7 +49,7 @@ same-length-2 : tie.Need-same-length-2
 same-length-2 c = search needs
 
 returns-2 : tie.Need-returns-2
-returns-2 c = rw (pair c) (omega arith, set-laid _ _ _ (slice-write-room-3 c) ∙ laid-next _ _ _ _ (slice-write-room-2 c))
+returns-2 c = let two = ap length (pair c) in rw (pair c) (omega arith, set-two _ _ _ _ (omega arith))
 
 pub stuff-byte-spec : {M : Type 1} → statement M
 stuff-byte-spec =

@@ -1,17 +1,19 @@
 -- `Receiver::hear` meets its contract: what is left of the piece gives what the whole piece gives.
 -- Assumes nothing.
-use mathlib.Core.Path.{refl, sym, ap, subst, _∙_}
+use mathlib.Core.Path.{_≡_, refl, sym, ap, subst⁻¹, _∙_}
 use mathlib.Core.Logic.{⊎-elim}
 use Prim.Native.Nat.{_+_, _-_, _<_, zero-le}
 use native.Mathlib.Omega.{arith}
 use borrow.Author.Needs.{needs}
-use lib.ListN.{length, take, length-map}
+use lib.ListN.{length, take, getD, length-map}
 use lib.Seq.{length-take-le}
 use Rattle.checks.specs.declared.kind.Check.{Check}
 use Rattle.wire.specs.Limits.{mostContent}
 use Rattle.station.specs.declared.event.Verdict.{Verdict}
+use Rattle.station.specs.declared.turn.Turn.{Turn}
 use Rattle.station.specs.Events.{verdict}
-use Rattle.station.proofs.Laws.Turning.{Room, turn-room}
+use Rattle.station.specs.Turning.{turn}
+use Rattle.station.proofs.Laws.Turning.{Sound, turn-sound}
 use Rattle.link.specs.declared.receiver.Receiver.{Receiver}
 use Rattle.link.specs.declared.receiver.Found.{Found}
 use Rattle.link.specs.Receiving.{being, outside, moved, outcome, answering, heard}
@@ -53,11 +55,17 @@ enum-told c = search needs
 loop-less : tie.Need-loop-less Inv-loop μ-loop
 loop-less c = omega arith
 
+-- the turn that was found is that of the byte
+turn-is : (d : tie.After-at-byte Inv-loop μ-loop) {t : Turn} → d .at-byte .result ≡ t → let l = d .before .before .before in
+    let a = l .before .before .before .args in
+    t ≡ turn (a .self .line) (l .loop .phase) (l .loop .count) (getD (a .piece .now) (l .loop .taken) 0)
+turn-is d found = sym found ∙ d .at-byte .ensures
+
 loop-again : tie.Need-loop-again Inv-loop μ-loop
 unfolding moved
 loop-again c =
     let d = c .before .before in
-    next-byte (d .before .before .before .loop .inv) (omega arith) (sym (c .enum-told .given .1) ∙ d .at-byte .ensures) refl
+    next-byte (d .before .before .before .loop .inv) (omega arith) (turn-is d (c .enum-told .given .1)) refl
 
 enum-told-2 : tie.Need-enum-told-2 Inv-loop μ-loop
 enum-told-2 c = search needs
@@ -69,7 +77,7 @@ loop-again-2 : tie.Need-loop-again-2 Inv-loop μ-loop
 unfolding moved
 loop-again-2 c =
     let d = c .before .before in
-    next-byte (d .before .before .before .loop .inv) (omega arith) (sym (c .enum-told2 .given .1) ∙ d .at-byte .ensures) refl
+    next-byte (d .before .before .before .loop .inv) (omega arith) (turn-is d (c .enum-told2 .given .1)) refl
 
 enum-told-3 : tie.Need-enum-told-3 Inv-loop μ-loop
 enum-told-3 c = search needs
@@ -81,7 +89,7 @@ loop-again-3 : tie.Need-loop-again-3 Inv-loop μ-loop
 unfolding moved
 loop-again-3 c =
     let d = c .before .before in
-    next-byte (d .before .before .before .loop .inv) (omega arith) (sym (c .enum-told3 .given .1) ∙ d .at-byte .ensures) refl
+    next-byte (d .before .before .before .loop .inv) (omega arith) (turn-is d (c .enum-told3 .given .1)) refl
 
 enum-known-turn : tie.Need-enum-known-turn Inv-loop μ-loop
 enum-known-turn c = search needs
@@ -91,7 +99,7 @@ room : (c : tie.After-known-told Inv-loop μ-loop) → c .before .before .before
 room c =
     let d = c .before .before .before in
     let a = d .before .before .before in
-    subst (Room (a .loop .count)) (sym (d .at-byte .ensures) ∙ c .before .turn .given .1) (turn-room _ _ _ _)
+    subst⁻¹ (Sound (a .loop .count)) (turn-is d (c .before .turn .given .1)) (turn-sound _ _ _ _)
 
 array-write-content : tie.Need-array-write-content Inv-loop μ-loop
 array-write-content c = room c
@@ -106,7 +114,7 @@ loop-again-4 : tie.Need-loop-again-4 Inv-loop μ-loop
 unfolding moved
 loop-again-4 c =
     let d = c .before .before .before in
-    next-byte (d .before .before .before .loop .inv) (omega arith) (sym (c .before .turn .given .1) ∙ d .at-byte .ensures) refl
+    next-byte (d .before .before .before .loop .inv) (omega arith) (turn-is d (c .before .turn .given .1)) refl
 
 enum-told-4 : tie.Need-enum-told-4 Inv-loop μ-loop
 enum-told-4 c = search needs
@@ -146,9 +154,9 @@ returns-2 c =
     ∙ ⊎-elim
     (λ w. ap (λ (f : Found). on (f .verdict) (f .taken)) (w .5)
     ∙ ap (λ (v : Verdict). on v n) (w .4 .ensures ∙ ap (λ (k : Check). verdict k (take (l .loop .count) (l .loop .content))) (w .2 .ensures))
-    ∙ breaks-off (l .loop .inv) (omega arith) (sym (w .1 .given .1) ∙ d .at-byte .ensures) refl)
+    ∙ breaks-off (l .loop .inv) (omega arith) (turn-is d (w .1 .given .1)) refl)
     (λ w. ap (λ (f : Found). on (f .verdict) (f .taken)) (w .3)
-    ∙ breaks-off (l .loop .inv) (omega arith) (sym (w .1 .given .1) ∙ d .at-byte .ensures) refl)
+    ∙ breaks-off (l .loop .inv) (omega arith) (turn-is d (w .1 .given .1)) refl)
     (m .match .came)
 
 pub hear-spec : {M : Type 1} → statement M

@@ -4,7 +4,7 @@ use mathlib.Core.Path.{ap, ap₂, _∙_}
 use borrow.Author.Needs.{needs}
 use Rattle.link.specs.declared.receiver.Receiver.{Receiver}
 use Rattle.link.specs.Receiving.{Made}
-use Rattle.link.proofs.Laws.Hearing.{receiver-made}
+use Rattle.link.proofs.Laws.Fresh.{receiver-made}
 use Rattle.tape.proofs.receivers.Receivers.fresh.Statement.{statement}
 use Rattle.tape.proofs.receivers.Receivers.fresh.Tie as tie
 
