@@ -128,3 +128,15 @@ puts-placed {out} {at} (then {y} x r o says more) begins fits =
     puts-placed more (omega arith) (omega arith)
     ∙ ap₂ (placed y) lies end
     ∙ ap₂ (λ (k : ℕ) (l : List ℕ). record { refusal = 0; end = k; out = l }) (omega arith) (laid-more out at x y begins)
+
+-- ---- where there is room: nothing put, two texts put in a row, and a text put to the front
+
+pub placed-nil : (out : List ℕ) (at : ℕ) → placed [] out at ≡ record { refusal = 0; end = at; out = out }
+placed-nil out at = ap₂ (λ (k : ℕ) (l : List ℕ). record { refusal = 0; end = k; out = l }) (add-zero at) (laid-nil out at)
+
+pub placed-more : (x y out : List ℕ) (at : ℕ) → at ≤ length out → placed y (laid out at x) (at + length x) ≡ placed (x ++ y) out at
+placed-more x y out at begins =
+    ap₂ (λ (k : ℕ) (l : List ℕ). record { refusal = 0; end = k; out = l }) (omega (arith, length-append x y)) (laid-more out at x y begins)
+
+pub take-placed : (bytes out : List ℕ) → take (placed bytes out 0 .end) (placed bytes out 0 .out) ≡ bytes
+take-placed bytes out = rw (zero-add (length bytes)) (take-front out bytes)
