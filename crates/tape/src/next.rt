@@ -12,7 +12,7 @@ pub enum Next {
     Full,
 }
 
-// The kind of a record of the point line's, and of an addressed line's.
+// The kinds of a record: one byte heard on the point line, and one heard on an addressed line by its master.
 pub const POINT: u8 = 0x01;
 
 pub const ADDRESSED: u8 = 0x02;
