@@ -43,14 +43,18 @@ pub record Run : Type 0 where
   pub count : ℕ
   pub text : List ℕ
 
+-- none was heard
+abbrev pub resting : Receiver → Run
+resting s = record { receiver = s; count = 0; text = [] }
+
 -- one by one, from behind so many records on, while there is room for the longest line
 unfoldable pub running : ℕ → Side → ℕ → Receiver → List ℕ → Run
-running room side n s [] = record { receiver = s; count = 0; text = [] }
+running room side n s [] = resting s
 running room side n s (b ∷ bs) =
     let said = received s (b ∷ []) in
     let text = brought n side said in
     let more = running (room - length text) side (n + 1) (said .receiver) bs in
-    cond (ltb room leastRoom) (record { receiver = s; count = 0; text = [] })
+    cond (ltb room leastRoom) (resting s)
     (record { receiver = more .receiver; count = 1 + more .count; text = text ++ more .text })
 
 -- a call's result, and the contents of the lent buffer as it returns

@@ -14,7 +14,7 @@ ghost use mathlib.Core.List.{[]};
 ghost use Prim.Native.Nat.{_≤_};
 ghost use lib.ListN.{length};
 ghost use Rattle.lines.specs.Limits.{leastRoom};
-ghost use Rattle.tape.specs.Taping.{being, badTape, told, refusing, listing, writing, going, listed};
+ghost use Rattle.tape.specs.Taping.{being, badTape, told, refusing, answering, writing, going, listed};
 
 // Records that are heard together at most.
 const MOST_RUN: usize = 128;
@@ -71,7 +71,7 @@ fn go(tape: Tape, chunk: &[u8], out: &mut [u8]) -> Listed
 
 // What a call answers that stopped here.
 fn stopped(records: u32, next: Next, receivers: Receivers, taken: usize, written: usize) -> Listed
-    ensures { λ r. ⌜ told r [] ≡ listing (being records next receivers) taken written [] ⌝ }
+    ensures { λ r. ⌜ told r [] ≡ answering (being records next receivers) taken written [] ⌝ }
 {
     let tape = Tape {
         records,

@@ -5,6 +5,8 @@ use lines::limits::LEAST_ROOM;
 use lines::side::Side;
 use link::receiver::Receiver;
 use tape::limits::MOST_RECORDS;
+use tape::next::ADDRESSED;
+use tape::next::POINT;
 ghost use mathlib.Core.Path.{_≡_};
 ghost use mathlib.Core.Bool.{false};
 ghost use Prim.Native.Nat.{_+_, _-_, _≤_, _<_};
@@ -49,8 +51,8 @@ fn kind_of(side: Side) -> u8
     ensures { λ r. ⌜ r ≡ kindOf side ⌝ }
 {
     match side {
-        Side::Point => 0x01,
-        Side::Addressed => 0x02,
+        Side::Point => POINT,
+        Side::Addressed => ADDRESSED,
     }
 }
 
@@ -91,7 +93,8 @@ fn hear(
     requires { ⌜ badState receiver ≡ false ⌝ }
     requires { ⌜ records + length (now bodies) ≤ mostRecords ⌝ }
     requires { ⌜ at ≤ length (now out) ⌝ }
-    ensures { λ r. ⌜ left r (now (out .exit)) ≡ leaving (running (length (now (out .entry)) - at) side records receiver (now (bodies .entry))) (now (out .entry)) at ⌝ }
+    ensures { λ r. ⌜ left r (now (out .exit))
+        ≡ leaving (running (length (now (out .entry)) - at) side records receiver (now (bodies .entry))) (now (out .entry)) at ⌝ }
 {
     let mut receiver = receiver;
     let mut count: usize = 0;

@@ -52,9 +52,13 @@ eventLine number side LONG content = line number side (nameOf LONG) []
 eventLine number side PAIR content = line number side (nameOf PAIR) []
 eventLine number side ADDR content = line number side (nameOf ADDR) []
 
+-- the content that an event carries
+abbrev pub carried : Said → List ℕ
+carried said = take (said .length) (said .content)
+
 -- the line of what a receiver said of a byte
 abbrev pub brought : ℕ → Side → Said → List ℕ
-brought n side said = eventLine n side (said .event) (take (said .length) (said .content))
+brought n side said = eventLine n side (said .event) (carried said)
 
 -- in the sense of row 2: more content than a frame may have is TooLong; in the sense of row 1: fewer places from `at` on than the least room
 -- is NoRoom. Order: 2, 1, as the frame writers'

@@ -63,7 +63,8 @@ fn put_line(
 ) -> Placed
     requires { ⌜ length (now content) ≤ mostContent ⌝ }
     requires { ⌜ leastRoom ≤ length (now out) - at ⌝ }
-    ensures { λ r. ⌜ ended r (now (out .exit)) ≡ placed (line number side (nameOf (named event)) (now (content .entry))) (now (out .entry)) at ⌝ }
+    ensures { λ r. ⌜ ended r (now (out .exit))
+        ≡ placed (line number side (nameOf (named event)) (now (content .entry))) (now (out .entry)) at ⌝ }
 {
     let counted = put_decimal(number as u64, out, at);
     let lettered = put(&letter(side), out, counted.end);

@@ -105,12 +105,12 @@ abbrev pub refusing : Refusal → Tape → List ℕ → Told
 refusing why t out = record { refusal = number why; tape = t; taken = 0; written = 0; out = out }
 
 -- a call that was not refused
-abbrev pub listing : Tape → ℕ → ℕ → List ℕ → Told
-listing t taken written out = record { refusal = 0; tape = t; taken = taken; written = written; out = out }
+abbrev pub answering : Tape → ℕ → ℕ → List ℕ → Told
+answering t taken written out = record { refusal = 0; tape = t; taken = taken; written = written; out = out }
 
 -- the text stands at the buffer's front, and bytes behind it stay as they were
 abbrev pub writing : Went → List ℕ → Told
-writing w out = listing (w .tape) (w .taken) (length (w .text)) (laid out 0 (w .text))
+writing w out = answering (w .tape) (w .taken) (length (w .text)) (laid out 0 (w .text))
 
 -- in the sense of row 4: a receiver that the link refuses, or a body behind the last permitted record, is BadState
 abbrev pub badReceivers : Receivers → Bool

@@ -3,7 +3,7 @@ use Prim.Native.Nat.{ℕ, _+_}
 use mathlib.Core.Bool.{cond}
 use mathlib.Core.List.{List, [], _∷_, _++_}
 use lib.Dec.{eqb}
-use lib.ListN.{length, take}
+use lib.ListN.{length}
 use Rattle.station.specs.declared.line.Line.{Line}
 use Rattle.station.specs.declared.line.Line.the-variants as line
 use Rattle.station.specs.Events.{Name, happened}
@@ -13,7 +13,7 @@ use Rattle.lines.specs.declared.side.Side.{Side}
 use Rattle.lines.specs.declared.side.Side.the-variants.{Point, Addressed}
 use Rattle.lines.specs.declared.ends.Ending.{Ending}
 use Rattle.lines.specs.declared.ends.Ending.the-variants.{End as END, Cut as CUT, Bad as BAD, Full as FULL}
-use Rattle.lines.specs.Lines.{headerLine, eventLine, lastLine}
+use Rattle.lines.specs.Lines.{headerLine, eventLine, carried, lastLine}
 use Rattle.tape.specs.declared.receivers.Receivers.{Receivers}
 use Rattle.tape.specs.Limits.{mostRecords}
 
@@ -96,7 +96,7 @@ entry number side event content = record { number = number; side = side; event =
 -- what a record brings, of which the receiver said this: one entry, unless nothing happened
 unfoldable pub entryOf : ℕ → Side → Said → List Entry
 entryOf number side said =
-    cond (happened (said .event)) (entry number side (said .event) (take (said .length) (said .content)) ∷ []) []
+    cond (happened (said .event)) (entry number side (said .event) (carried said) ∷ []) []
 
 -- the entries of records from behind so many others on: each hands its byte to the receiver of its line
 unfoldable pub entries : ℕ → Receivers → List Record → List Entry

@@ -12,6 +12,11 @@ pub enum Next {
     Full,
 }
 
+// The kinds of a record: one byte heard on the point line, and one heard on an addressed line by its master.
+pub const POINT: u8 = 0x01;
+
+pub const ADDRESSED: u8 = 0x02;
+
 // Behind a kind byte that follows so many whole records.
 pub fn behind_kind(records: u32, kind: u8) -> Next
     ensures { λ r. ⌜ r ≡ behindKind records kind ⌝ }
@@ -20,8 +25,8 @@ pub fn behind_kind(records: u32, kind: u8) -> Next
         return Next::Full;
     }
     match kind {
-        0x01 => Next::Body(Side::Point),
-        0x02 => Next::Body(Side::Addressed),
+        POINT => Next::Body(Side::Point),
+        ADDRESSED => Next::Body(Side::Addressed),
         _ => Next::Bad,
     }
 }

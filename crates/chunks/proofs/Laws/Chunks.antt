@@ -2,18 +2,15 @@
 -- Assumes nothing.
 use mathlib.Core.Path.{_≡_, refl, sym, ap, ap₂, subst⁻¹, _∙_}
 use mathlib.Core.Bool.{true, false}
-use mathlib.Core.List.{List, [], _∷_, _++_}
+use mathlib.Core.List.{List, [], _∷_}
 use Prim.Native.Nat.{ℕ, _+_, _*_, _-_, _≤_, _<_}
-use native.Mathlib.Nat.{add-zero, zero-add}
+use native.Mathlib.Nat.{add-zero, zero-add, add-assoc}
 use native.Mathlib.Omega.{arith}
-use borrow.Author.Tests.{eqb-false}
-use lib.Dec.{eqb}
-use lib.ListN.{length, drop, getD, length-append, length-take, length-drop, drop-of-length-le}
+use lib.ListN.{length, drop, getD, length-take, length-drop, drop-of-length-le}
 use lib.Seq.{drop-drop}
-use Rattle.ground.specs.Laying.{laid}
-use Rattle.ground.proofs.Laws.Choice.{or-none}
+use Rattle.ground.specs.Laying.{laid, Ended, placed}
 use Rattle.ground.proofs.Laws.Lists.{drop-next}
-use Rattle.ground.proofs.Laws.Laying.{laid-nil, laid-more, length-laid}
+use Rattle.ground.proofs.Laws.Laying.{length-laid, placed-nil, placed-more}
 use Rattle.link.specs.Receiving.{badState}
 use Rattle.lines.specs.declared.side.Side.{Side}
 use Rattle.lines.specs.Limits.{leastRoom}
@@ -22,8 +19,8 @@ use Rattle.tape.specs.declared.receivers.Receivers.{Receivers}
 use Rattle.tape.specs.declared.tape.Tape.{Tape}
 use Rattle.tape.specs.Limits.{mostRecords}
 use Rattle.tape.specs.Whole.{kindOf, on, turned}
-use Rattle.tape.specs.Taping.{being, behindKind, isOver, Went, standing, going, Told, writing, badReceivers, badTape}
-use Rattle.tape.proofs.Laws.Fine.{kind-fine, turned-fine, on-fine, receivers-fine, tape-fine}
+use Rattle.tape.specs.Taping.{being, behindKind, isOver, Went, standing, going, Told, answering, writing, badTape}
+use Rattle.tape.proofs.Laws.Fine.{kind-fine, turned-fine, on-fine, receivers-fine, body-permitted, tape-fine}
 use Rattle.tape.proofs.Laws.Taping.{behindWent}
 use Rattle.chunks.specs.Running.{linked, laced, Run, running, Left, left, Heard}
 use Rattle.chunks.proofs.Laws.Going.{going-over, going-full, going-kind, running-some, running-within, running-good, goes-on}
@@ -32,10 +29,13 @@ use Rattle.chunks.proofs.Laws.Going.{going-over, going-full, going-kind
 abbrev pub over : List ℕ → Told → Told
 over out d = record { refusal = d .refusal; tape = d .tape; taken = d .taken; written = d .written; out = out }
 
+-- a result with where its text ends and what it left
+abbrev wrote : Tape → ℕ → Ended → Told
+wrote t taken e = answering t taken (e .end) (e .out)
+
 -- behind some bytes whose text ends here
 abbrev pub writingBehind : ℕ → Went → List ℕ → ℕ → Told
-writingBehind taken w out written =
-    record { refusal = 0; tape = w .tape; taken = taken + w .taken; written = written + length (w .text); out = laid out written (w .text) }
+writingBehind taken w out written = wrote (w .tape) (taken + w .taken) (placed (w .text) out written)
 
 pub none-taken : (t : Tape) (chunk out : List ℕ)
     → writingBehind 0 (going (length out - 0) t (drop 0 chunk)) out 0 ≡ writing (going (length out) t chunk) out
@@ -43,25 +43,13 @@ none-taken t chunk out =
     let all : length out - 0 ≡ length out = omega arith in
     let w = going (length out) t chunk in
     ap (λ (room : ℕ). writingBehind 0 (going room t chunk) out 0) all
-    ∙ ap₂ (λ (n k : ℕ). record { refusal = 0; tape = w .tape; taken = n; written = k; out = laid out 0 (w .text) })
-    (zero-add (w .taken)) (zero-add (length (w .text)))
+    ∙ ap₂ (λ (n k : ℕ). answering (w .tape) n k (laid out 0 (w .text))) (zero-add (w .taken)) (zero-add (length (w .text)))
 
 -- what was gone over is part of what was taken and written before
 writing-more : (taken k : ℕ) (text : List ℕ) (w : Went) (out : List ℕ) (written : ℕ) → written ≤ length out
     → writingBehind (taken + k) w (laid out written text) (written + length text) ≡ writingBehind taken (behindWent k text w) out written
 writing-more taken k text w out written ends =
-    let far : written + length text + length (w .text) ≡ written + length (text ++ w .text) = omega (arith, length-append text (w .text)) in
-    ap₂ (λ (n : ℕ) (l : List ℕ). record { refusal = 0; tape = w .tape; taken = taken + k + w .taken; written = n; out = l })
-    far (laid-more out written text (w .text) ends)
-    ∙ ap (λ (n : ℕ). record {
-      refusal = 0;
-      tape = w .tape;
-      taken = n;
-      written = written + length (text ++ w .text);
-      out = laid out written
-          (text ++ w .text);
-    })
-    (omega arith)
+    ap₂ (wrote (w .tape)) (add-assoc taken k (w .taken)) (placed-more text (w .text) out written ends)
 
 length-laced : (k : ℕ) (bs : List ℕ) → length (laced k bs) ≡ 2 * length bs
 unfolding laced
@@ -83,23 +71,20 @@ module _ (chunk : List ℕ) (all : Told) where
 
   module _ {out : List ℕ} {t : Tape} {taken written : ℕ} (goes : Goes out t taken written) where
     -- nothing more is taken
-    stands : going (length out - written) t (drop taken chunk) ≡ standing t
-        → record { refusal = 0; tape = t; taken = taken; written = written; out = out } ≡ all
+    stands : going (length out - written) t (drop taken chunk) ≡ standing t → answering t taken written out ≡ all
     stands none =
-        ap₂ (λ (n k : ℕ). record { refusal = 0; tape = t; taken = n; written = k; out = out }) (sym (add-zero taken)) (sym (add-zero written))
-        ∙ ap (λ (l : List ℕ). record { refusal = 0; tape = t; taken = taken + 0; written = written + 0; out = l })
-        (sym (laid-nil out written))
+        ap₂ (wrote t) (sym (add-zero taken)) (sym (placed-nil out written))
         ∙ ap (λ (w : Went). writingBehind taken w out written) (sym none)
         ∙ goes .same
 
-    pub at-end : length chunk ≤ taken → record { refusal = 0; tape = t; taken = taken; written = written; out = out } ≡ all
+    pub at-end : length chunk ≤ taken → answering t taken written out ≡ all
     unfolding going
     at-end over = stands (rw (drop-of-length-le chunk over))
 
-    pub out-of-room : length out - written < leastRoom → record { refusal = 0; tape = t; taken = taken; written = written; out = out } ≡ all
+    pub out-of-room : length out - written < leastRoom → answering t taken written out ≡ all
     out-of-room full = stands (going-full (length out - written) t (drop taken chunk) full)
 
-    pub at-last : isOver (t .next) ≡ true → record { refusal = 0; tape = t; taken = taken; written = written; out = out } ≡ all
+    pub at-last : isOver (t .next) ≡ true → answering t taken written out ≡ all
     at-last over = stands (going-over (length out - written) t (drop taken chunk) over)
 
   module _ {out : List ℕ} {n : ℕ} {r : Receivers} {taken written : ℕ} where
@@ -115,15 +100,7 @@ module _ (chunk : List ℕ) (all : Told) where
           ends = goes .ends;
           same =
               let g = going (length out - written) (being n (behindKind n k) r) (drop (taken + 1) chunk) in
-              ap (λ (m : ℕ). record {
-                refusal = 0;
-                tape = g .tape;
-                taken = m;
-                written = written + length (g .text);
-                out = laid out written
-                    (g .text);
-              })
-              (omega arith)
+              ap (λ (m : ℕ). wrote (g .tape) m (placed (g .text) out written)) (add-assoc taken 1 (g .taken))
               ∙ ap (λ (w : Went). writingBehind taken w out written)
               (sym (going-kind (length out - written) n r k (drop (taken + 1) chunk) fits)
               ∙ ap (going (length out - written) (being n Kind r)) (sym (drop-next chunk taken more)))
@@ -132,7 +109,7 @@ module _ (chunk : List ℕ) (all : Told) where
 
     -- before a body the record is permitted, and the receiver of its line is good
     pub permitted : {side : Side} → Goes out (being n (Body side) r) taken written → n < mostRecords
-    permitted goes = omega (arith, goes .few, eqb-false n mostRecords (or-none (badReceivers r) (eqb n mostRecords) (goes .fine) .1))
+    permitted {side} goes = body-permitted n side r (goes .fine) (goes .few)
 
     pub on-good : (side : Side) → Goes out (being n (Body side) r) taken written → badState (on side r) ≡ false
     on-good side goes = on-fine side r (receivers-fine (being n (Body side) r) (goes .fine))

@@ -6,7 +6,7 @@ use mathlib.Core.List.{List, [], _∷_, _++_, append-nil, append-assoc}
 use Prim.Native.Nat.{ℕ, suc, _+_, _*_, _-_, _≤_, _<_, zero-le}
 use native.Mathlib.Decide.{decLe}
 use native.Mathlib.Omega.{arith}
-use borrow.Author.Tests.{lt-ltb, ne-eqb}
+use borrow.Author.Tests.{lt-ltb, ltb-false, ne-eqb}
 use lib.Dec.{ltb}
 use lib.ListN.{length, drop, length-append, take-append-drop}
 use Rattle.ground.proofs.Laws.Choice.{cond-elim}
@@ -26,7 +26,7 @@ use Rattle.tape.specs.Whole.{kindOf, on, turned}
 use Rattle.tape.specs.Taping.{being, behindKind, stepAt, isOver, Went, standing, going}
 use Rattle.tape.proofs.Laws.Whole.{kind-known}
 use Rattle.tape.proofs.Laws.Taping.{behindWent, going-step, brought-within}
-use Rattle.chunks.specs.Running.{laced, Gathered, Run, running}
+use Rattle.chunks.specs.Running.{laced, Gathered, Run, resting, running}
 use Rattle.chunks.proofs.Laws.Running.{behindRun, running-step, running-full}
 
 -- ---- where it stops, and a kind byte
@@ -80,36 +80,18 @@ module _ (side : Side) where
       let l = b ∷ (laced (kindOf side) bs ++ rest) in
       going room (being n (Body side) r) l ≡ wentOn room n r l (running room side n (on side r) (b ∷ bs))
 
-  module _ (room n : ℕ) (r : Receivers) (b : ℕ) (h : leastRoom ≤ room) where
+  module _ (n : ℕ) (r : Receivers) (b : ℕ) where
     abbrev s : Receiver
     s = received (on side r) (b ∷ []) .receiver
 
     abbrev text : List ℕ
     text = brought n side (received (on side r) (b ∷ []))
 
-    -- the first body
-    first : (l : List ℕ)
-        → going room (being n (Body side) r) (b ∷ l) ≡ behindWent 1 text (going (room - length text) (being (n + 1) Kind (turned side s r)) l)
-    unfolding stepAt
-    first l = going-step room (being n (Body side) r) b l refl h
-
-    -- no other body is heard
-    goes-one : (bs rest : List ℕ) → running (room - length text) side (n + 1) s bs ≡ record { receiver = s; count = 0; text = [] }
-        → Goes room n r b bs rest
-    goes-one bs rest none =
-        first (laced (kindOf side) bs ++ rest)
-        ∙ ap (λ (t : List ℕ). behindWent 1 t
-        (going (room - length t) (being (n + 1) Kind (turned side s r)) (laced (kindOf side) bs ++ rest)))
-        (sym (append-nil text))
-        ∙ ap (wentOn room n r (b ∷ (laced (kindOf side) bs ++ rest)))
-        (sym (running-step side room n (on side r) b bs h ∙ ap
-        (λ (w : Run). record { receiver = w .receiver; count = 1 + w .count; text = text ++ w .text }) none))
-
     -- the first body and its kind's next are together what was gone over
-    joined : (w : Run) (k : ℕ) (l : List ℕ) → 1 ≤ w .count
+    joined : (room : ℕ) (w : Run) (k : ℕ) (l : List ℕ) → 1 ≤ w .count
         → behindWent 1 text (behindWent 1 [] (wentOn (room - length text) (n + 1) (turned side s r) l w))
         ≡ wentOn room n r (b ∷ k ∷ l) (behindRun 1 text w)
-    joined w k l some =
+    joined room w k l some =
         let c = w .count in
         let u = w .receiver in
         let m = room - length text - length (w .text) in
@@ -126,40 +108,59 @@ module _ (side : Side) where
         ∙ ap₂ (λ (a : ℕ) (t : List ℕ). record { tape = g .tape; taken = a; text = t }) (omega arith)
         (sym (append-assoc text (w .text) (g .text)))
 
-    goes-more : (c : ℕ) (bs rest : List ℕ) → leastRoom ≤ room - length text → n + 1 < mostRecords
-        → Goes (room - length text) (n + 1) (turned side s r) c bs rest
-        → Goes room n r b (c ∷ bs) rest
-    unfolding laced
-    goes-more c bs rest more few others =
-        let k = kindOf side in
-        let l = c ∷ (laced k bs ++ rest) in
-        let m = room - length text in
-        first (k ∷ l)
-        ∙ ap (behindWent 1 text)
-        (going-kind m (n + 1) (turned side s r) k l more
-        ∙ ap (behindWent 1 []) (ap (λ (x : Next). going m (being (n + 1) x (turned side s r)) l) (body-next side (n + 1) few) ∙ others))
-        ∙ ap (λ (x : Receiver). behindWent 1 text
-        (behindWent 1 [] (wentOn m (n + 1) (turned side s r) l (running m side (n + 1) x (c ∷ bs)))))
-        (on-turned side s r)
-        ∙ joined (running m side (n + 1) s (c ∷ bs)) k l (running-some side m (n + 1) s c bs more)
-        ∙ ap (wentOn room n r (b ∷ k ∷ l)) (sym (running-step side room n (on side r) b (c ∷ bs) h))
+    module _ (room : ℕ) (h : leastRoom ≤ room) where
+      -- the first body
+      first : (l : List ℕ)
+          → going room (being n (Body side) r) (b ∷ l)
+          ≡ behindWent 1 text (going (room - length text) (being (n + 1) Kind (turned side s r)) l)
+      unfolding stepAt
+      first l = going-step room (being n (Body side) r) b l refl h
+
+      -- no other body is heard
+      goes-one : (bs rest : List ℕ) → running (room - length text) side (n + 1) s bs ≡ resting s
+          → Goes room n r b bs rest
+      goes-one bs rest none =
+          first (laced (kindOf side) bs ++ rest)
+          ∙ ap (λ (t : List ℕ). behindWent 1 t
+          (going (room - length t) (being (n + 1) Kind (turned side s r)) (laced (kindOf side) bs ++ rest)))
+          (sym (append-nil text))
+          ∙ ap (wentOn room n r (b ∷ (laced (kindOf side) bs ++ rest)))
+          (sym (running-step side room n (on side r) b bs h ∙ ap (behindRun 1 text) none))
+
+      goes-more : (c : ℕ) (bs rest : List ℕ) → leastRoom ≤ room - length text → n + 1 < mostRecords
+          → Goes (room - length text) (n + 1) (turned side s r) c bs rest
+          → Goes room n r b (c ∷ bs) rest
+      unfolding laced
+      goes-more c bs rest more few others =
+          let k = kindOf side in
+          let l = c ∷ (laced k bs ++ rest) in
+          let m = room - length text in
+          first (k ∷ l)
+          ∙ ap (behindWent 1 text)
+          (going-kind m (n + 1) (turned side s r) k l more
+          ∙ ap (behindWent 1 []) (ap (λ (x : Next). going m (being (n + 1) x (turned side s r)) l) (body-next side (n + 1) few) ∙ others))
+          ∙ ap (λ (x : Receiver). behindWent 1 text
+          (behindWent 1 [] (wentOn m (n + 1) (turned side s r) l (running m side (n + 1) x (c ∷ bs)))))
+          (on-turned side s r)
+          ∙ joined room (running m side (n + 1) s (c ∷ bs)) k l (running-some side m (n + 1) s c bs more)
+          ∙ ap (wentOn room n r (b ∷ k ∷ l)) (sym (running-step side room n (on side r) b (c ∷ bs) h))
 
   goes : (bs : List ℕ) (room n : ℕ) (r : Receivers) (b : ℕ) (rest : List ℕ) → leastRoom ≤ room → n + length (b ∷ bs) ≤ mostRecords
       → Goes room n r b bs rest
   unfolding running
-  goes [] room n r b rest h few = goes-one room n r b h [] rest refl
+  goes [] room n r b rest h few = goes-one n r b room h [] rest refl
   goes (c ∷ bs) room n r b rest h few =
-      go (decLe leastRoom (room - length (text room n r b h)))
-      (goes bs (room - length (text room n r b h)) (n + 1) (turned side (s room n r b h) r) c rest)
+      go (decLe leastRoom (room - length (text n r b)))
+      (goes bs (room - length (text n r b)) (n + 1) (turned side (s n r b) r) c rest)
     where
-      go : Dec (leastRoom ≤ room - length (text room n r b h))
-          → (leastRoom ≤ room - length (text room n r b h) → n + 1 + length (c ∷ bs) ≤ mostRecords
-          → Goes (room - length (text room n r b h)) (n + 1) (turned side (s room n r b h) r) c bs rest)
+      go : Dec (leastRoom ≤ room - length (text n r b))
+          → (leastRoom ≤ room - length (text n r b) → n + 1 + length (c ∷ bs) ≤ mostRecords
+          → Goes (room - length (text n r b)) (n + 1) (turned side (s n r b) r) c bs rest)
           → Goes room n r b (c ∷ bs) rest
-      go (yes more) others = goes-more room n r b h c bs rest more (omega arith) (others more (omega arith))
+      go (yes more) others = goes-more n r b room h c bs rest more (omega arith) (others more (omega arith))
       go (no full) others =
-          goes-one room n r b h (c ∷ bs) rest
-          (running-full side (room - length (text room n r b h)) (n + 1) (s room n r b h) (c ∷ bs) (omega arith))
+          goes-one n r b room h (c ∷ bs) rest
+          (running-full side (room - length (text n r b)) (n + 1) (s n r b) (c ∷ bs) (omega arith))
 
 -- ---- what bodies leave
 
@@ -168,20 +169,14 @@ pub running-within : (side : Side) (bs : List ℕ) (room n : ℕ) (s : Receiver)
     → let w = running room side n s bs in (w .count ≤ length bs) × (length (w .text) ≤ room)
 unfolding running
 running-within side [] room n s few = (omega arith, zero-le)
-running-within side (b ∷ bs) room n s few = go (decLe leastRoom room) (running-within side bs)
-  where
-    go : Dec (leastRoom ≤ room)
-        → ((room n : ℕ) (s : Receiver) → n + length bs ≤ mostRecords
-        → let w = running room side n s bs in (w .count ≤ length bs) × (length (w .text) ≤ room))
-        → let w = running room side n s (b ∷ bs) in (w .count ≤ suc (length bs)) × (length (w .text) ≤ room)
-    go (yes h) rest =
-        let said = received s (b ∷ []) in
-        let text = brought n side said in
-        let w = running (room - length text) side (n + 1) (said .receiver) bs in
-        let r = rest (room - length text) (n + 1) (said .receiver) (omega arith) in
-        rw (running-step side room n s b bs h)
-        (omega (arith, r .0), omega (arith, r .1, length-append text (w .text), brought-within n side s (b ∷ []) (omega arith)))
-    go (no full) rest = rw (running-full side room n s (b ∷ bs) (omega arith)) (zero-le, zero-le)
+running-within side (b ∷ bs) room n s few =
+    let said = received s (b ∷ []) in
+    let text = brought n side said in
+    let more = running (room - length text) side (n + 1) (said .receiver) bs in
+    let r = running-within side bs (room - length text) (n + 1) (said .receiver) (omega arith) in
+    cond-elim (λ (w : Run). (w .count ≤ length (b ∷ bs)) × (length (w .text) ≤ room)) (ltb room leastRoom) (λ full. (zero-le, zero-le))
+    (λ fits. let roomy = ltb-false room leastRoom fits in
+    (omega (arith, r .0), omega (arith, r .1, length-append text (more .text), brought-within n side s (b ∷ []) (omega arith))))
 
 pub running-good : (side : Side) (bs : List ℕ) (room n : ℕ) (s : Receiver) → badState s ≡ false
     → badState (running room side n s bs .receiver) ≡ false

@@ -1,16 +1,16 @@
 -- How the loop over gathered bodies goes: what is left of them gives what all of them give.
 -- Assumes nothing.
-use mathlib.Core.Path.{_≡_, sym, ap, ap₂, _∙_}
+use mathlib.Core.Path.{_≡_, sym, ap, ap₂, subst⁻¹, _∙_}
 use mathlib.Core.Bool.{false}
-use mathlib.Core.List.{List, [], _++_}
+use mathlib.Core.List.{List}
 use Prim.Native.Nat.{ℕ, _+_, _-_, _≤_, _<_}
-use native.Mathlib.Nat.{add-zero, zero-add}
+use native.Mathlib.Nat.{add-zero, zero-add, add-assoc}
 use native.Mathlib.Omega.{arith}
-use lib.ListN.{length, drop, length-append, length-drop, drop-of-length-le}
+use lib.ListN.{length, drop, length-drop, drop-of-length-le}
 use lib.Seq.{drop-drop}
 use Rattle.ground.specs.declared.laying.Placed.{Placed}
 use Rattle.ground.specs.Laying.{laid, Ended, ended, placed}
-use Rattle.ground.proofs.Laws.Laying.{laid-nil, laid-more, length-laid}
+use Rattle.ground.proofs.Laws.Laying.{length-laid, placed-nil, placed-more}
 use Rattle.link.specs.declared.receiver.Receiver.{Receiver}
 use Rattle.link.specs.Receiving.{Said, badState, received}
 use Rattle.link.proofs.Laws.Receiving.{received-takes, stays-good}
@@ -18,18 +18,19 @@ use Rattle.lines.specs.declared.side.Side.{Side}
 use Rattle.lines.specs.Limits.{leastRoom}
 use Rattle.tape.specs.Limits.{mostRecords}
 use Rattle.tape.proofs.Laws.Taping.{brought-within}
-use Rattle.chunks.specs.Running.{Run, running, Left, leaving}
+use Rattle.chunks.specs.Running.{Run, resting, running, Left, leaving}
 use Rattle.chunks.proofs.Laws.Running.{callText, Hears, running-full, running-piece}
+
+-- a result with where its lines end and what they left
+abbrev leftBy : Receiver → ℕ → Ended → Left
+leftBy s count e = record { receiver = s; count = count; end = e .end; out = e .out }
 
 -- behind some bodies whose lines end here
 abbrev pub leavingBehind : ℕ → Run → List ℕ → ℕ → Left
-leavingBehind count w out end =
-    record { receiver = w .receiver; count = count + w .count; end = end + length (w .text); out = laid out end (w .text) }
+leavingBehind count w out end = leftBy (w .receiver) (count + w .count) (placed (w .text) out end)
 
 pub none-before : (w : Run) (out : List ℕ) (end : ℕ) → leavingBehind 0 w out end ≡ leaving w out end
-none-before w out end =
-    ap (λ (k : ℕ). record { receiver = w .receiver; count = k; end = end + length (w .text); out = laid out end (w .text) })
-    (zero-add (w .count))
+none-before w out end = ap (λ (k : ℕ). leftBy (w .receiver) k (placed (w .text) out end)) (zero-add (w .count))
 
 module _ (side : Side) (records : ℕ) (bodies : List ℕ) (all : Left) where
   -- so many bodies were heard, and their lines end here
@@ -40,25 +41,21 @@ module _ (side : Side) (records : ℕ) (bodies : List ℕ) (all : Left) where
     pub same : leavingBehind count (running (length out - end) side (records + count) s (drop count bodies)) out end ≡ all
 
   module _ {out : List ℕ} {s : Receiver} {count end : ℕ} (goes : Goes out s count end) where
-    here : Left
+    abbrev here : Left
     here = record { receiver = s; count = count; end = end; out = out }
 
     -- none is left to hear
-    stands : running (length out - end) side (records + count) s (drop count bodies) ≡ record { receiver = s; count = 0; text = [] }
-        → here ≡ all
-    unfolding here
+    stands : running (length out - end) side (records + count) s (drop count bodies) ≡ resting s → here ≡ all
     stands none =
-        ap₂ (λ (k : ℕ) (l : List ℕ). record { receiver = s; count = count; end = k; out = l }) (sym (add-zero end)) (sym (laid-nil out end))
-        ∙ ap (λ (k : ℕ). record { receiver = s; count = k; end = end + 0; out = laid out end [] }) (sym (add-zero count))
+        ap₂ (leftBy s) (sym (add-zero count)) (sym (placed-nil out end))
         ∙ ap (λ (w : Run). leavingBehind count w out end) (sym none)
         ∙ goes .same
 
-    pub out-of-room : length out - end < leastRoom → record { receiver = s; count = count; end = end; out = out } ≡ all
-    unfolding here
+    pub out-of-room : length out - end < leastRoom → here ≡ all
     out-of-room full = stands (running-full side (length out - end) (records + count) s (drop count bodies) full)
 
-    pub out-of-bodies : length bodies ≤ count → record { receiver = s; count = count; end = end; out = out } ≡ all
-    unfolding here running
+    pub out-of-bodies : length bodies ≤ count → here ≡ all
+    unfolding running
     out-of-bodies over = stands (rw (drop-of-length-le bodies over))
 
     -- a call on all that is left takes some of it
@@ -69,7 +66,7 @@ module _ (side : Side) (records : ℕ) (bodies : List ℕ) (all : Left) where
     takes-most = omega (arith, received-takes s (drop count bodies) (goes .good) .most, length-drop count bodies, goes .part)
 
     -- and the line that it brought
-    module _ (few : records + length bodies ≤ mostRecords) (fits : leastRoom ≤ length out - end) (r : Placed) (o : List ℕ) where
+    module _ (few : records + length bodies ≤ mostRecords) (fits : leastRoom ≤ length out - end) where
       abbrev left : List ℕ
       left = drop count bodies
 
@@ -92,43 +89,25 @@ module _ (side : Side) (records : ℕ) (bodies : List ℕ) (all : Left) where
       unfolding Hears
       rest-same =
           let w = running (length out - end - length text) side (records + count + said .taken) (said .receiver) (drop (said .taken) left) in
-          let far : end + length text + length (w .text) ≡ end + length (text ++ w .text) = omega (arith, length-append text (w .text)) in
-          ap₂ (λ (k : ℕ) (l : List ℕ). record { receiver = w .receiver; count = count + said .taken + w .count; end = k; out = l })
-          far (laid-more out end text (w .text) (goes .ends))
-          ∙ ap (λ (k : ℕ). record {
-            receiver = w .receiver;
-            count = k;
-            end = end + length (text ++ w .text);
-            out = laid out end
-                (text ++ w .text);
-          })
-          (omega arith)
+          ap₂ (leftBy (w .receiver)) (add-assoc count (said .taken) (w .count)) (placed-more text (w .text) out end (goes .ends))
           ∙ ap (λ (v : Run). leavingBehind count v out end)
           (sym (running-piece side left (length out - end) (records + count) s (goes .good) fits))
 
-      pub next-call : ended r o ≡ placed text out end → Goes o (said .receiver) (count + said .taken) (r .end)
-      next-call puts =
-          let ends : r .end ≡ end + length text = ap (λ (d : Ended). d .end) puts in
-          let lies : o ≡ laid out end text = ap (λ (d : Ended). d .out) puts in
-          let fit : end + length text ≤ length out = omega (arith, text-fits, goes .ends) in
-          let size : length o ≡ length out = ap length lies ∙ length-laid out end text fit in
-          let room : length o - r .end ≡ length out - end - length text = omega arith in
+      pub next-call : (r : Placed) (o : List ℕ) → ended r o ≡ placed text out end
+          → Goes o (said .receiver) (count + said .taken) (r .end)
+      next-call r o puts =
+          let size : length (laid out end text) ≡ length out = length-laid out end text (omega (arith, text-fits, goes .ends)) in
+          let room : length (laid out end text) - (end + length text) ≡ length out - end - length text = omega arith in
           let far : records + (count + said .taken) ≡ records + count + said .taken = omega arith in
-          record {
+          let on : drop (count + said .taken) bodies ≡ drop (said .taken) left = sym (drop-drop (said .taken) count bodies) in
+          subst⁻¹ (λ (e : Ended). Goes (e .out) (said .receiver) (count + said .taken) (e .end)) puts
+          (record {
             part = takes-most;
             good = stays-good s left (goes .good);
-            ends = omega arith;
+            ends = omega (arith, text-fits, goes .ends);
             same =
-                ap₂
-                (λ (k n : ℕ). leavingBehind (count + said .taken) (running k side n (said .receiver) (drop (count + said .taken) bodies)) o
-                (r .end))
-                room far
-                ∙ ap (λ (l : List ℕ). leavingBehind (count + said .taken)
-                (running (length out - end - length text) side (records + count + said .taken) (said .receiver) l) o (r .end))
-                (sym (drop-drop (said .taken) count bodies))
-                ∙ ap₂ (leavingBehind (count + said .taken)
-                (running (length out - end - length text) side (records + count + said .taken) (said .receiver)
-                (drop (said .taken) left))) lies ends
+                (λ i. leavingBehind (count + said .taken) (running (room i) side (far i) (said .receiver) (on i)) (laid out end text)
+                (end + length text))
                 ∙ rest-same
                 ∙ goes .same;
-          }
+          })

@@ -17,9 +17,9 @@ use Rattle.link.proofs.Laws.Receiving.{received-takes, stays-good, empty-piece}
 use Rattle.link.proofs.Laws.Bytes.{later, received-first, received-later}
 use Rattle.lines.specs.declared.side.Side.{Side}
 use Rattle.lines.specs.Limits.{leastRoom}
-use Rattle.lines.specs.Lines.{eventLine, brought}
+use Rattle.lines.specs.Lines.{brought}
 use Rattle.lines.proofs.Laws.Lines.{no-line}
-use Rattle.chunks.specs.Running.{laced, linked, Gathered, Run, running}
+use Rattle.chunks.specs.Running.{laced, linked, Gathered, Run, resting, running}
 
 -- ---- gathering
 
@@ -91,8 +91,7 @@ module _ (side : Side) where
   running-step room n s b bs h = rw (le-ltb room leastRoom h)
 
   -- and none where there is not
-  pub running-full : (room n : ℕ) (s : Receiver) (bs : List ℕ) → room < leastRoom
-      → running room side n s bs ≡ record { receiver = s; count = 0; text = [] }
+  pub running-full : (room n : ℕ) (s : Receiver) (bs : List ℕ) → room < leastRoom → running room side n s bs ≡ resting s
   unfolding running
   running-full room n s [] h = refl
   running-full room n s (b ∷ bs) h = rw (lt-ltb room leastRoom h)
@@ -116,9 +115,9 @@ module _ (side : Side) where
     where
       go : (k : ℕ) → said .taken ≡ k → callText n (later said) ≡ callText (n + 1) said
       go zero e =
-          no-line (n + (said .taken + 1 - 1)) side (said .event) (take (said .length) (said .content)) (some e)
-          ∙ sym (no-line (n + 1 + (said .taken - 1)) side (said .event) (take (said .length) (said .content)) (some e))
-      go (suc k) e = ap (λ (i : ℕ). eventLine i side (said .event) (take (said .length) (said .content))) (omega arith)
+          no-line (n + (said .taken + 1 - 1)) side said (some e)
+          ∙ sym (no-line (n + 1 + (said .taken - 1)) side said (some e))
+      go (suc k) e = ap (λ (i : ℕ). brought i side said) (omega arith)
 
   -- none there, and the others are heard behind it
   hears-later : (room n : ℕ) (s : Receiver) (b : ℕ) (bs : List ℕ) (said : Said) → leastRoom ≤ room
@@ -134,7 +133,7 @@ module _ (side : Side) where
       let m = running (room - length (callText (n + 1) said)) side (n + 1 + k) (said .receiver) (drop k bs) in
       running-step room n s b bs h
       ∙ ap (λ (t : List ℕ). behindRun 1 t (running (room - length t) side (n + 1) (one .receiver) bs))
-      (no-line n side (one .event) (take (one .length) (one .content)) quiet)
+      (no-line n side one quiet)
       ∙ ap (behindRun 1 []) (ap (λ (r : ℕ). running r side (n + 1) (one .receiver) bs) all ∙ rest)
       ∙ ap (λ (c : ℕ). record { receiver = m .receiver; count = c; text = callText (n + 1) said ++ m .text }) (omega arith)
       ∙ ap₂
@@ -150,7 +149,7 @@ module _ (side : Side) where
   hears-none room n s =
       let e = empty-piece s in
       let said = received s [] in
-      rw (no-line (n + (said .taken - 1)) side (said .event) (take (said .length) (said .content)) (ap happened (e .1)), e .2, e .0)
+      rw (no-line (n + (said .taken - 1)) side said (ap happened (e .1)), e .2, e .0)
 
   hears-more : (room n : ℕ) (s : Receiver) (b : ℕ) (bs : List ℕ) → badState s ≡ false → leastRoom ≤ room
       → Hears room (n + 1) (received s (b ∷ []) .receiver) bs (received (received s (b ∷ []) .receiver) bs)

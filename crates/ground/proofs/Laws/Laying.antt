@@ -1,6 +1,6 @@
 -- Laws of laying bytes into a buffer.
 -- Assumes nothing.
-use mathlib.Core.Path.{_≡_, ap, ap₂, _∙_}
+use mathlib.Core.Path.{_≡_, sym, ap, ap₂, _∙_}
 use mathlib.Core.List.{List, [], _∷_, _++_, append-assoc, append-nil}
 use Prim.Native.Nat.{ℕ, _+_, _-_, _≤_, _<_, zero-le}
 use native.Mathlib.Nat.{add-zero, zero-add, add-assoc}
@@ -123,6 +123,19 @@ put-within bytes out at begins =
 pub put-ends : (r : Placed) {left : List ℕ} (bytes out : List ℕ) (at : ℕ) → ended r left ≡ put bytes out at → at ≤ length out → r .end ≤ length out
 put-ends r bytes out at says begins = rw (ap (λ (e : Ended). e .end) says) (put-within bytes out at begins)
 
+-- ---- where there is room: nothing put, two texts put in a row, and a text put to the front
+
+pub placed-nil : (out : List ℕ) (at : ℕ) → placed [] out at ≡ record { refusal = 0; end = at; out = out }
+placed-nil out at = sym (placed-is [] out at (sym (add-zero at)) (sym (laid-nil out at)))
+
+pub placed-more : (x y out : List ℕ) (at : ℕ) → at ≤ length out → placed y (laid out at x) (at + length x) ≡ placed (x ++ y) out at
+placed-more x y out at begins = placed-is (x ++ y) out at (omega (arith, length-append x y)) (laid-more out at x y begins)
+
+pub take-placed : (bytes out : List ℕ) → take (placed bytes out 0 .end) (placed bytes out 0 .out) ≡ bytes
+take-placed bytes out = rw (zero-add (length bytes)) (take-front out bytes)
+
+-- ---- one part of a text behind the other
+
 -- Calls that put one part of a text behind the other, from a place of a buffer on, and what the last of them answers and leaves.
 pub data Puts : List ℕ → ℕ → List ℕ → Ended → Type 0 where
   last : {out : List ℕ} {at : ℕ} {x : List ℕ} {e : Ended} → e ≡ put x out at → Puts out at x e
@@ -141,4 +154,4 @@ puts-placed {out} {at} (then {y} x r o says more) begins fits =
     let same : length o ≡ length out = ap length lies ∙ length-laid out at x (omega arith) in
     puts-placed more (omega arith) (omega arith)
     ∙ ap₂ (placed y) lies end
-    ∙ placed-is (x ++ y) out at (omega arith) (laid-more out at x y begins)
+    ∙ placed-more x y out at begins

@@ -19,10 +19,10 @@ use Rattle.lines.specs.declared.ends.Ending.{Ending}
 use Rattle.lines.specs.declared.ends.Ending.the-variants.{End, Cut, Bad, Full}
 use Rattle.lines.specs.declared.side.Side.{Side}
 use Rattle.lines.specs.declared.side.Side.the-variants.{Point, Addressed}
-use Rattle.lines.specs.Limits.{leastRoom}
-use Rattle.lines.specs.Lines.{headerLine, letter, line, eventLine, brought, putHeard, word, lastLine, nameOf}
+use Rattle.lines.specs.Limits.{mostNumber, leastRoom, mostLast}
+use Rattle.lines.specs.Lines.{headerLine, letter, line, eventLine, carried, brought, putHeard, word, lastLine, nameOf}
 
-pub length-letter : (side : Side) → length (letter side) ≡ 3
+length-letter : (side : Side) → length (letter side) ≡ 3
 unfolding letter ascii
 length-letter Point = refl
 length-letter Addressed = refl
@@ -44,7 +44,7 @@ length-name LONG = omega arith
 length-name PAIR = omega arith
 length-name ADDR = omega arith
 
-pub line-within : (n : ℕ) (side : Side) (name content : List ℕ) → n ≤ 0xFFFFFFFF → length name ≤ 6 → length content ≤ mostContent
+pub line-within : (n : ℕ) (side : Side) (name content : List ℕ) → n ≤ mostNumber → length name ≤ 6 → length content ≤ mostContent
     → length (line n side name content) ≤ leastRoom
 unfolding line ascii
 line-within n side name content few short fits =
@@ -53,7 +53,7 @@ line-within n side name content few short fits =
     let p = pairs-within content mostContent (omega arith) fits in
     simp length-append (omega arith)
 
-pub event-within : (n : ℕ) (side : Side) (event : Name) (content : List ℕ) → n ≤ 0xFFFFFFFF → length content ≤ mostContent
+pub event-within : (n : ℕ) (side : Side) (event : Name) (content : List ℕ) → n ≤ mostNumber → length content ≤ mostContent
     → length (eventLine n side event content) ≤ leastRoom
 unfolding eventLine
 event-within n side NONE content few fits = zero-le
@@ -64,8 +64,8 @@ event-within n side LONG content few fits = line-within n side (nameOf LONG) [] 
 event-within n side PAIR content few fits = line-within n side (nameOf PAIR) [] few (length-name PAIR) zero-le
 event-within n side ADDR content few fits = line-within n side (nameOf ADDR) [] few (length-name ADDR) zero-le
 
--- and the longest last line in sixteen places
-pub last-within : (e : Ending) (n : ℕ) → n ≤ 0xFFFFFFFF → length (lastLine e n) ≤ 16
+-- and the longest last line in its places
+pub last-within : (e : Ending) (n : ℕ) → n ≤ mostNumber → length (lastLine e n) ≤ mostLast
 unfolding lastLine ascii
 last-within e n few =
     let w = length-word e in
@@ -80,15 +80,18 @@ header-within = omega arith
 -- ---- which line an event has
 
 -- none where nothing happened
-pub no-line : (n : ℕ) (side : Side) (event : Name) (content : List ℕ) → happened event ≡ false → eventLine n side event content ≡ []
+pub no-line : (n : ℕ) (side : Side) (said : Said) → happened (said .event) ≡ false → brought n side said ≡ []
 unfolding eventLine
-no-line n side NONE content e = refl
-no-line n side FRAME content e = absurd (true≢false e)
-no-line n side CHECK content e = absurd (true≢false e)
-no-line n side SHORT content e = absurd (true≢false e)
-no-line n side LONG content e = absurd (true≢false e)
-no-line n side PAIR content e = absurd (true≢false e)
-no-line n side ADDR content e = absurd (true≢false e)
+no-line n side said quiet = go (said .event) quiet
+  where
+    go : (event : Name) → happened event ≡ false → eventLine n side event (carried said) ≡ []
+    go NONE e = refl
+    go FRAME e = absurd (true≢false e)
+    go CHECK e = absurd (true≢false e)
+    go SHORT e = absurd (true≢false e)
+    go LONG e = absurd (true≢false e)
+    go PAIR e = absurd (true≢false e)
+    go ADDR e = absurd (true≢false e)
 
 -- FRAME's shows the content
 pub frame-line : (n : ℕ) (side : Side) (content : List ℕ) → line n side (nameOf FRAME) content ≡ eventLine n side FRAME content

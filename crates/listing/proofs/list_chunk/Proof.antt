@@ -1,12 +1,14 @@
 -- `list_chunk` meets its contract: a call takes no more than was left, and writes no more than the buffer holds.
 -- Assumes nothing.
-use mathlib.Core.Path.{_≡_, refl, sym, subst⁻¹}
-use Prim.Native.Nat.{_+_, _-_, _≤_}
+use mathlib.Core.Path.{_≡_, refl, sym, ap, subst⁻¹, _∙_}
+use mathlib.Core.List.{List}
+use Prim.Native.Nat.{ℕ, _+_, _-_, _≤_, _<_}
 use native.Mathlib.Omega.{arith}
-use lib.ListN.{length, take, drop, length-take, length-drop}
+use lib.ListN.{length, drop, length-drop}
 use lib.Seq.{length-take-le}
+use Rattle.ground.proofs.Laws.Lists.{take-rest}
 use Rattle.tape.specs.Limits.{mostRecords}
-use Rattle.tape.specs.Taping.{told}
+use Rattle.tape.specs.Taping.{told, listed}
 use Rattle.tape.proofs.Laws.Taping.{Within, listed-within}
 use Rattle.listing.proofs.list_chunk.Statement.{statement}
 use Rattle.listing.proofs.list_chunk.Tie as tie
@@ -33,35 +35,37 @@ part-list-end c = omega arith
 list-requires : tie.Need-list-requires Inv-loop μ-loop
 list-requires c κs = tt
 
--- by the call's statement
-listed : (c : tie.After-list Inv-loop μ-loop)
-    → Within (take (length
-    (c .before .before .before .before .before .before .before .args .chunk .now) - c .before .before .before .before .loop .taken)
-    (drop (c .before .before .before .before .loop .taken) (c .before .before .before .before .before .before .before .args .chunk .now)))
-    (c .before .before .before .before .loop .text) (told (c .list .result) (c .list .last .1 .1 .0))
-listed c =
-    let l = c .before .before .before .before .loop in
-    let part = take (length
-    (c .before .before .before .before .before .before .before .args .chunk .now) - c .before .before .before .before .loop .taken)
-    (drop (c .before .before .before .before .loop .taken) (c .before .before .before .before .before .before .before .args .chunk .now)) in
-    subst⁻¹ (Within part (l .text)) (c .list .ensures) (listed-within (l .tape) part (l .text) (l .inv .2))
+-- the call's entry, and the chunk
+abbrev entry : tie.After-list Inv-loop μ-loop → tie.Start Inv-loop μ-loop
+entry c = c .before .before .before .before .before .before .before
 
+abbrev whole : tie.After-list Inv-loop μ-loop → List ℕ
+whole c = entry c .args .chunk .now
+
+-- by the call's statement, on all that is left of the chunk
+within : (c : tie.After-list Inv-loop μ-loop) → let l = c .before .before .before .before .loop in
+    Within (drop (l .taken) (whole c)) (l .text) (told (c .list .result) (c .list .last .1 .1 .0))
+within c =
+    let l = c .before .before .before .before .loop in
+    let rest = drop (l .taken) (whole c) in
+    subst⁻¹ (Within rest (l .text))
+    (c .list .ensures ∙ ap (λ (x : List ℕ). listed (l .tape) x (l .text)) (take-rest (whole c) (l .taken)))
+    (listed-within (l .tape) rest (l .text) (l .inv .2))
+
+-- it took no more than was left of a chunk that has no more bytes than can be counted
 takes : (c : tie.After-list Inv-loop μ-loop)
-    → c .before .before .before .before .loop .taken + c .list .result .taken ≤ length
-    (c .before .before .before .before .before .before .before .args .chunk .now)
+    → (c .before .before .before .before .loop .taken + c .list .result .taken ≤ length (whole c))
+    × (length (whole c) < 0x8000000000000000)
 takes c =
     let l = c .before .before .before .before .loop in
-    let chunk = c .before .before .before .before .before .before .before .args .chunk .now in
-    omega (
-      arith,
-      listed c .taken,
-      length-take (length chunk - l .taken) (drop (l .taken) chunk),
-      length-drop (l .taken) chunk,
-      l .inv .0,
-    )
+    (omega (arith, within c .taken, length-drop (l .taken) (whole c), l .inv .0), omega (arith, entry c .good))
+
+-- and left the buffer as long as it was
+kept : (c : tie.After-list Inv-loop μ-loop) → length (c .list .last .1 .1 .0) ≡ length (entry c .args .text .now)
+kept c = omega (arith, c .list .kept, c .before .before .before .before .loop .inv .1)
 
 slice-reshare-prefix-print : tie.Need-slice-reshare-prefix-print Inv-loop μ-loop
-slice-reshare-prefix-print c = omega (arith, listed (c .before .before .before) .written, c .before .before .before .list .kept)
+slice-reshare-prefix-print c = omega (arith, within (c .before .before .before) .written, c .before .before .before .list .kept)
 
 slice-aggregate-print : tie.Need-slice-aggregate-print Inv-loop μ-loop
 slice-aggregate-print c = sym (length-take-le _ _ (slice-reshare-prefix-print (c .before)))
@@ -70,37 +74,28 @@ print-requires : tie.Need-print-requires Inv-loop μ-loop
 print-requires c κs = tt
 
 same-length : tie.Need-same-length Inv-loop μ-loop
-same-length c =
-    omega (arith, c .before .before .before .before .before .before .list .kept, c .before .before .before .before .before .before .before .before .before .before .loop .inv .1)
+same-length c = kept (c .before .before .before .before .before .before)
 
 returns : tie.Need-returns Inv-loop μ-loop
-returns c = listed (c .before .before .before .before .before .before) .records
+returns c = within (c .before .before .before .before .before .before) .records
 
 halted-requires : tie.Need-halted-requires Inv-loop μ-loop
-halted-requires c κs = listed (c .before .before .before .before .before .before .before .before) .records
+halted-requires c κs = within (c .before .before .before .before .before .before .before .before) .records
 
 same-length-2 : tie.Need-same-length-2 Inv-loop μ-loop
-same-length-2 c =
-    omega (arith, c .before .before .before .before .before .before .before .before .before .list .kept, c .before .before .before .before .before .before .before .before .before .before .before .before .before .loop .inv .1)
+same-length-2 c = kept (c .before .before .before .before .before .before .before .before .before)
 
 returns-2 : tie.Need-returns-2 Inv-loop μ-loop
 returns-2 c = c .halted .ensures
 
 add-taken : tie.Need-add-taken Inv-loop μ-loop
-add-taken c =
-    omega (arith, takes (c .before .before .before .before .before .before .before .before .before), c .before .before .before .before .before .before .before .before .before .before .before .before .before .before .before .before .good)
+add-taken c = omega (arith, takes (c .before .before .before .before .before .before .before .before .before))
 
 loop-less : tie.Need-loop-less Inv-loop μ-loop
-loop-less c =
-    omega (arith, takes (c .before .before .before .before .before .before .before .before .before), c .before .if2 .left, c .before .before .before .before .before .before .before .before .before .before .before .before .loop-test .taken)
+loop-less c = omega (arith, takes (c .before .before .before .before .before .before .before .before .before), c .before .if2 .left)
 
 loop-again : tie.Need-loop-again Inv-loop μ-loop
-loop-again c = (
-  takes (c .before .before .before .before .before .before .before .before .before),
-  omega
-      (arith, c .before .before .before .before .before .before .before .before .before .list .kept, c .before .before .before .before .before .before .before .before .before .before .before .before .before .loop .inv .1),
-  listed (c .before .before .before .before .before .before .before .before .before) .records,
-)
+loop-again c = let d = c .before .before .before .before .before .before .before .before .before in (takes d .0, kept d, within d .records)
 
 is-over-requires : tie.Need-is-over-requires Inv-loop μ-loop
 is-over-requires c κs = tt

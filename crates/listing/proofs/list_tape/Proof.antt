@@ -6,8 +6,7 @@ use native.Mathlib.Omega.{arith}
 use borrow.Author.Needs.{needs}
 use lib.ListN.{length}
 use lib.Seq.{length-take-le}
-use Rattle.ground.specs.Laying.{Ended}
-use Rattle.ground.proofs.Laws.Laying.{put-within}
+use Rattle.ground.proofs.Laws.Laying.{put-ends}
 use Rattle.tape.specs.declared.tape.Tape.{Tape}
 use Rattle.tape.specs.Limits.{mostRecords}
 use Rattle.tape.specs.Taping.{lastOf}
@@ -43,13 +42,20 @@ list-block-requires c κs = c .before .before .before .loop .inv .2
 enum-told : tie.Need-enum-told Inv-loop μ-loop
 enum-told c = search needs
 
+-- a block leaves both buffers as long as they were, and counts no record too many
+keeps : (c : tie.After-list-block Inv-loop μ-loop) → let b = c .list-block in
+    (length (b .last .1 .1 .0) ≡ length (c .before .before .before .before .before .before .before .before .args .text .now))
+    × (length (b .last .1 .0) ≡ 65536) × (b .result .tape .records ≤ mostRecords)
+keeps c =
+    let l = c .before .before .before .before .loop in
+    (omega (arith, c .list-block .kept, l .inv .0), omega (arith, c .list-block .kept, l .inv .1), c .list-block .ensures)
+
 loop-less : tie.Need-loop-less Inv-loop μ-loop
 loop-less c =
     omega (arith, c .before .before .before .before .before .before .before .before .before .loop-test .taken)
 
 loop-again : tie.Need-loop-again Inv-loop μ-loop
-loop-again c =
-    (omega (arith, c .before .before .before .before .before .before .list-block .kept, c .before .before .before .before .before .before .before .before .before .before .loop .inv .0), omega (arith, c .before .before .before .before .before .before .list-block .kept, c .before .before .before .before .before .before .before .before .before .before .loop .inv .1), c .before .before .before .before .before .before .list-block .ensures)
+loop-again c = keeps (c .before .before .before .before .before .before)
 
 enum-told-2 : tie.Need-enum-told-2 Inv-loop μ-loop
 enum-told-2 c = search needs
@@ -59,15 +65,13 @@ loop-less-2 c =
     omega (arith, c .before .before .before .before .before .before .before .before .before .loop-test .taken)
 
 loop-again-2 : tie.Need-loop-again-2 Inv-loop μ-loop
-loop-again-2 c =
-    (omega (arith, c .before .before .before .before .before .before .list-block .kept, c .before .before .before .before .before .before .before .before .before .before .loop .inv .0), omega (arith, c .before .before .before .before .before .before .list-block .kept, c .before .before .before .before .before .before .before .before .before .before .loop .inv .1), c .before .before .before .before .before .before .list-block .ensures)
+loop-again-2 c = keeps (c .before .before .before .before .before .before)
 
 enum-told-3 : tie.Need-enum-told-3 Inv-loop μ-loop
 enum-told-3 c = search needs
 
 same-length : tie.Need-same-length Inv-loop μ-loop
-same-length c =
-    omega (arith, c .before .before .before .before .before .before .list-block .kept, c .before .before .before .before .before .before .before .before .before .before .loop .inv .0)
+same-length c = keeps (c .before .before .before .before .before .before) .0
 
 returns : tie.Need-returns Inv-loop μ-loop
 returns c = tt
@@ -79,7 +83,7 @@ slice-reshare-prefix-print : tie.Need-slice-reshare-prefix-print Inv-loop μ-loo
 slice-reshare-prefix-print c =
     let w = c .before .before .write-last in
     let l = c .before .before .before .before .before .loop in
-    omega (arith, w .kept, ap (λ (e : Ended). e .end) (w .ensures), put-within (lastOf (l .tape)) (l .text) 0 zero-le)
+    omega (arith, w .kept, put-ends (w .result) (lastOf (l .tape)) (l .text) 0 (w .ensures) zero-le)
 
 slice-aggregate-print : tie.Need-slice-aggregate-print Inv-loop μ-loop
 slice-aggregate-print c = sym (length-take-le _ _ (slice-reshare-prefix-print (c .before)))
@@ -89,7 +93,7 @@ print-requires c κs = tt
 
 same-length-2 : tie.Need-same-length-2 Inv-loop μ-loop
 same-length-2 c =
-    omega (arith, c .before .before .before .before .write-last .kept, c .before .before .before .before .before .before .before .loop .inv .0)
+    let w = c .before .before .before .before in omega (arith, w .write-last .kept, w .before .before .before .loop .inv .0)
 
 returns-2 : tie.Need-returns-2 Inv-loop μ-loop
 returns-2 c = tt

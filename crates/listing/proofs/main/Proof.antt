@@ -1,12 +1,11 @@
 -- `main` meets its contract: the header line ends within the buffer.
 -- Assumes nothing.
-use mathlib.Core.Path.{sym, ap}
+use mathlib.Core.Path.{sym}
 use Prim.Native.Nat.{zero-le}
 use native.Mathlib.Omega.{arith}
 use borrow.Author.Needs.{needs}
 use lib.Seq.{length-take-le}
-use Rattle.ground.specs.Laying.{Ended}
-use Rattle.ground.proofs.Laws.Laying.{put-within}
+use Rattle.ground.proofs.Laws.Laying.{put-ends}
 use Rattle.lines.specs.Lines.{headerLine}
 use Rattle.listing.proofs.main.Statement.{statement}
 use Rattle.listing.proofs.main.Tie as tie
@@ -24,7 +23,7 @@ array-share-prefix-text : tie.Need-array-share-prefix-text
 array-share-prefix-text c =
     let w = c .before .write-header in
     let text = c .before .before .before .large-buffer .result in
-    omega (arith, w .kept, ap (λ (e : Ended). e .end) (w .ensures), put-within headerLine text 0 zero-le)
+    omega (arith, w .kept, put-ends (w .result) headerLine text 0 (w .ensures) zero-le)
 
 slice-aggregate-print : tie.Need-slice-aggregate-print
 slice-aggregate-print c = sym (length-take-le _ _ (array-share-prefix-text (c .before)))

@@ -18,7 +18,7 @@ use Rattle.tape.specs.Examples.{Holds, examples}
 use Rattle.tape.specs.Whole.{kind, parts, entryOf, entries, entryLines, listing}
 
 pub each-holds : Each Holds examples
-unfolding stuffed stuffing shiftStep shiftSteps byteStep run residue fcs fcsBytes total sum checkOf withCheck front came alike isRight takes kept plain
-    partner contentByte inside within turn verdict moved outcome heard received ascii spelled digit further pairs headerLine letter line nameOf eventLine word
-    lastLine kind parts entryOf entries entryLines listing
+unfolding stuffed stuffing shiftStep shiftSteps byteStep run residue fcs fcsBytes total sum checkOf withCheck front came alike isRight
+    takes kept plain partner contentByte inside within turn verdict moved outcome heard received ascii spelled digit further pairs
+    headerLine letter line nameOf eventLine word lastLine kind parts entryOf entries entryLines listing
 each-holds = refl and refl and refl and refl and refl and refl and refl and refl and refl and refl and refl and refl and refl and none

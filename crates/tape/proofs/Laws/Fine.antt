@@ -3,7 +3,9 @@
 use mathlib.Core.Path.{_≡_, refl}
 use mathlib.Core.Bool.{Bool, true, false, cond, _&&_}
 use mathlib.Core.List.{[], _∷_}
-use Prim.Native.Nat.{ℕ, _+_}
+use Prim.Native.Nat.{ℕ, _+_, _≤_, _<_}
+use native.Mathlib.Omega.{arith}
+use borrow.Author.Tests.{eqb-false}
 use lib.Dec.{eqb}
 use Rattle.ground.proofs.Laws.Choice.{or-none}
 use Rattle.link.specs.declared.receiver.Receiver.{Receiver}
@@ -44,6 +46,10 @@ on-fine Addressed r fine = or-none (badState (r .point)) (badState (r .addressed
 
 pub receivers-fine : (t : Tape) → badTape t ≡ false → badReceivers (t .receivers) ≡ false
 receivers-fine t fine = or-none (badReceivers (t .receivers)) (awaitsBody (t .next) && eqb (t .records) mostRecords) fine .0
+
+-- before a body the record is permitted
+pub body-permitted : (n : ℕ) (side : Side) (r : Receivers) → badTape (being n (Body side) r) ≡ false → n ≤ mostRecords → n < mostRecords
+body-permitted n side r fine few = omega (arith, eqb-false n mostRecords (or-none (badReceivers r) (eqb n mostRecords) fine .1))
 
 pub tape-fine : (n : ℕ) (next : Next) (r : Receivers) → badReceivers r ≡ false → (awaitsBody next && eqb n mostRecords) ≡ false
     → badTape (being n next r) ≡ false

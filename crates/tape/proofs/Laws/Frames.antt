@@ -7,9 +7,9 @@ use mathlib.Core.List.{List, [], _∷_, _++_, append-assoc}
 use mathlib.Core.List.{List·Memᴰ, List·Memᴰ·head, List·Memᴰ·tail, List·Memᴰ·not-nil, List·Memᴰ·cases-cons}
 use Prim.Native.Nat.{ℕ, _+_, _≤_}
 use native.Mathlib.Omega.{arith}
-use lib.ListN.{length, take, drop, length-append, length-drop}
-use lib.Seq.{drop-drop}
+use lib.ListN.{length, drop, length-append}
 use Rattle.ground.proofs.Laws.Choice.{cond-elim}
+use Rattle.ground.proofs.Laws.Lists.{drop-on, drop-none}
 use Rattle.station.specs.Events.{Name, FRAME, happened}
 use Rattle.link.specs.declared.receiver.Receiver.{Receiver}
 use Rattle.link.specs.Receiving.{Said, badState, received}
@@ -21,6 +21,7 @@ use Rattle.link.proofs.Laws.Fresh.{fresh-point, fresh-station, fresh-good}
 use Rattle.link.proofs.Laws.Demand.{hearing-lists}
 use Rattle.lines.specs.declared.side.Side.{Side}
 use Rattle.lines.specs.declared.side.Side.the-variants.{Point, Addressed}
+use Rattle.lines.specs.Lines.{carried}
 use Rattle.tape.specs.declared.receivers.Receivers.{Receivers}
 use Rattle.tape.specs.Whole.{Record, heard, Entry, entry, entryOf, entries, lineOn, freshReceivers, on, turned}
 use Rattle.tape.specs.Frames.{byteOn, bytesOn, Carries, Rise, Shows}
@@ -45,7 +46,7 @@ rise-entries (heard side b ∷ rs) n r =
 
 -- what a call tells whose last byte has this place
 abbrev toldOf : ℕ → Said → List Told
-toldOf place said = note place (said .event) (take (said .length) (said .content))
+toldOf place said = note place (said .event) (carried said)
 
 -- what bytes tell that are handed over one by one, from behind a place on
 unfoldable told : ℕ → Receiver → List ℕ → List Told
@@ -56,11 +57,11 @@ told p s (b ∷ bs) =
 
 hears : (stream rest : List ℕ) (p : ℕ) (s : Receiver) → badState s ≡ false → drop p stream ≡ rest → Hearing stream s p (told p s rest)
 unfolding told
-hears stream [] p s good left = over {before = p} (omega (arith, length-drop p stream, ap length left))
+hears stream [] p s good left = over {before = p} (drop-none stream p left)
 hears stream (b ∷ bs) p s good left =
     let next = received s (b ∷ []) .receiver in
     hearing-byte stream b bs p s (told (p + 1) next bs) good left
-    (hears stream bs (p + 1) next (stays-good s (b ∷ []) good) (sym (drop-drop 1 p stream) ∙ ap (drop 1) left))
+    (hears stream bs (p + 1) next (stays-good s (b ∷ []) good) (drop-on stream p 1 left))
 
 fresh-on : (side : Side) → IsFresh (lineOn side) (on side freshReceivers)
 fresh-on Point = fresh-point
@@ -142,10 +143,9 @@ module _ (records : List Record) (side : Side) where
         → Matches (entryOf n side said ++ es) (toldOf (p + 1) said ++ ts)
     unfolding entryOf
     match-same {es} {ts} n p said here rest =
-        let content = take (said .length) (said .content) in
         cond-elim (λ (x : List Entry). Matches (x ++ es) (toldOf (p + 1) said ++ ts)) (happened (said .event))
-        (λ t. rw (note-some (p + 1) (said .event) content t) (match-more n p (said .event) content here rest))
-        (λ f. rw (note-none (p + 1) (said .event) content f) rest)
+        (λ t. rw (note-some (p + 1) (said .event) (carried said) t) (match-more n p (said .event) (carried said) here rest))
+        (λ f. rw (note-none (p + 1) (said .event) (carried said) f) rest)
 
     -- one more of the other
     match-other : {es : List Entry} {ts : List Told} (n : ℕ) (other : Side) (said : Said) → (side ≡ other → ⊥) → Matches es ts

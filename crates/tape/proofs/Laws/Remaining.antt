@@ -1,20 +1,19 @@
 -- What is left of a tape brings the same text, however much of it a call takes; and from the start it is the listing.
 -- Assumes nothing.
 use mathlib.Core.Path.{_≡_, refl, sym, ap, _∙_}
-use mathlib.Core.Bool.{Bool, true, false, cond, _||_, false≢true}
+use mathlib.Core.Bool.{Bool, true, false, cond, false≢true}
 use mathlib.Core.List.{List, [], _∷_, _++_, append-assoc}
-use Prim.Native.Nat.{ℕ, suc, _+_, _-_}
+use Prim.Native.Nat.{ℕ, suc, _+_}
 use native.Mathlib.Nat.{add-zero}
 use native.Mathlib.Omega.{arith}
-use lib.Dec.{ltb, eqb}
-use lib.ListN.{length, take, drop}
+use lib.Dec.{eqb}
+use lib.ListN.{length, drop}
 use Rattle.ground.proofs.Laws.Choice.{cond-elim}
 use Rattle.station.specs.Events.{happened}
 use Rattle.link.specs.Receiving.{Said, received}
 use Rattle.lines.specs.declared.side.Side.{Side}
 use Rattle.lines.specs.declared.ends.Ending.{Ending}
 use Rattle.lines.specs.declared.ends.Ending.the-variants.{Full as FULL}
-use Rattle.lines.specs.Limits.{leastRoom}
 use Rattle.lines.specs.Lines.{brought, lastLine}
 use Rattle.lines.proofs.Laws.Lines.{no-line}
 use Rattle.tape.specs.declared.next.Next.{Next}
@@ -25,6 +24,7 @@ use Rattle.tape.specs.Limits.{mostRecords}
 use Rattle.tape.specs.Whole.{known, unknown, kind, Parts, noMore, bodyless, before, parts, turned, on, Entry, entryOf, entries, entryLines, eventLines}
 use Rattle.tape.specs.Whole as whole
 use Rattle.tape.specs.Taping.{being, awaited, behindKind, stepAt, stepped, quiet, isOver, Went, going, ending, lastOf}
+use Rattle.tape.proofs.Laws.Taping.{going-elim}
 
 -- the text that is to come, the last line with it
 unfoldable pub remaining : Tape → List ℕ → List ℕ
@@ -48,14 +48,10 @@ step-remains t b l m same =
 pub going-remains : (chunk rest : List ℕ) (room : ℕ) (t : Tape)
     → let g = going room t chunk in
     remaining t (chunk ++ rest) ≡ g .text ++ remaining (g .tape) (drop (g .taken) (chunk ++ rest))
-unfolding going
-going-remains [] rest room t = refl
-going-remains (b ∷ bs) rest room t =
-    let s = stepped t b in
-    let m = going (room - length (s .text)) (s .tape) bs in
-    cond-elim (λ (g : Went). remaining t (b ∷ (bs ++ rest)) ≡ g .text ++ remaining (g .tape) (drop (g .taken) (b ∷ (bs ++ rest))))
-    (isOver (t .next) || ltb room leastRoom) (λ stops. refl)
-    (λ goes. step-remains t b (bs ++ rest) m (going-remains bs rest (room - length (s .text)) (s .tape)))
+going-remains chunk rest room t =
+    going-elim
+    (λ (n : ℕ) (u : Tape) (l : List ℕ) (g : Went). remaining u (l ++ rest) ≡ g .text ++ remaining (g .tape) (drop (g .taken) (l ++ rest)))
+    (λ n u l. refl) (λ n u b bs m more roomy same. step-remains u b (bs ++ rest) m same) chunk room t
 
 -- behind the last byte that is read only the last line is left
 over-step : (next : Next) (t : Tape) (b : ℕ) → isOver next ≡ true → stepAt next t b ≡ quiet t
@@ -82,7 +78,7 @@ entry-lines : (n : ℕ) (side : Side) (said : Said) (es : List Entry)
 unfolding entryOf entryLines
 entry-lines n side said es =
     cond-elim (λ (x : List Entry). brought n side said ++ entryLines es ≡ entryLines (x ++ es)) (happened (said .event)) (λ t. refl)
-    (λ f. ap (λ (l : List ℕ). l ++ entryLines es) (no-line n side (said .event) (take (said .length) (said .content)) f))
+    (λ f. ap (λ (l : List ℕ). l ++ entryLines es) (no-line n side said f))
 
 -- no record more
 text-none : (n : ℕ) (r : Receivers) (next : Next) → lastOf (being n next r) ≡ text n r (noMore (ending next))

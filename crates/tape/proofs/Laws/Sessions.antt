@@ -9,13 +9,12 @@ use native.Mathlib.Nat.{add-zero, zero-add}
 use native.Mathlib.Decide.{decLe}
 use native.Mathlib.Omega.{arith}
 use borrow.Author.Tests.{le-ltb}
-use lib.Dec.{ltb}
-use lib.ListN.{length, take, drop, replicate, length-drop, length-replicate, drop-of-length-le}
-use lib.Seq.{drop-drop}
+use lib.ListN.{length, take, drop, replicate, length-replicate, drop-of-length-le}
+use Rattle.ground.specs.declared.refusal.Refusal.{Refusal}
 use Rattle.ground.specs.declared.refusal.Refusal.the-variants as refusal
 use Rattle.ground.specs.Laying.{laid, Ended}
-use Rattle.ground.proofs.Laws.Choice.{cond-elim}
-use Rattle.ground.proofs.Laws.Laying.{take-front, put-refused, put-placed}
+use Rattle.ground.proofs.Laws.Lists.{drop-on, drop-none}
+use Rattle.ground.proofs.Laws.Laying.{take-front, put-refused, put-placed, take-placed}
 use Rattle.lines.specs.Limits.{leastRoom}
 use Rattle.lines.specs.Lines.{headerLine, lastLine}
 use Rattle.tape.specs.declared.tape.Tape.{Tape}
@@ -25,21 +24,21 @@ use Rattle.tape.specs.Frames.{Shows}
 use Rattle.tape.specs.Taping.{freshTape, stepped, isOver, going, Told, refusing, writing, badTape, listed, lastOf}
 use Rattle.tape.specs.Sessions.{Written, Session, over, call, Listing, begun}
 use Rattle.tape.proofs.Laws.Fine.{step-fine}
-use Rattle.tape.proofs.Laws.Taping.{fresh-fine}
+use Rattle.tape.proofs.Laws.Taping.{listed-elim, fresh-fine}
 use Rattle.tape.proofs.Laws.Frames.{frames-shown}
 use Rattle.tape.proofs.Laws.Remaining.{remaining, going-remains, over-remains, remaining-listed}
 
 -- ---- what is written
 
 -- a call that was not refused wrote the whole line
-pub written-line : {line text : List ℕ} → Written line text → text ≡ line
+written-line : {line text : List ℕ} → Written line text → text ≡ line
 written-line {line} {text} w = go (decLe (length line) (length (w .out) - 0))
   where
     go : Dec (length line ≤ length (w .out) - 0) → text ≡ line
     go (yes fits) =
         w .writes
         ∙ ap (λ (d : Ended). take (d .end) (d .out)) (w .says ∙ put-placed line (w .out) 0 fits)
-        ∙ rw (zero-add (length line)) (take-front (w .out) line)
+        ∙ take-placed line (w .out)
     go (no short) =
         absurd (let e = sym (w .fine) ∙ ap (λ (d : Ended). d .refusal) (w .says ∙ put-refused line (w .out) 0 (omega arith)) in omega arith)
 
@@ -48,9 +47,9 @@ module _ (bytes : List ℕ) where
   Continues : Tape → ℕ → Told → Type 0
   Continues t before d = take (d .written) (d .out) ++ remaining (d .tape) (drop (before + d .taken) bytes) ≡ remaining t (drop before bytes)
 
-  refused-continues : (t : Tape) (before : ℕ) (out : List ℕ) (d : Told) → d .tape ≡ t → d .taken ≡ 0 → d .written ≡ 0 → Continues t before d
+  refused-continues : (t : Tape) (before : ℕ) (out : List ℕ) (why : Refusal) → Continues t before (refusing why t out)
   unfolding Continues
-  refused-continues t before out d same none nothing = rw (same, none, nothing, add-zero before)
+  refused-continues t before out why = rw (add-zero before)
 
   writing-continues : (t : Tape) (before : ℕ) (chunk rest out : List ℕ) → drop before bytes ≡ chunk ++ rest
       → Continues t before (writing (going (length out) t chunk) out)
@@ -58,20 +57,17 @@ module _ (bytes : List ℕ) where
   writing-continues t before chunk rest out continues =
       let g = going (length out) t chunk in
       ap₂ (λ (x y : List ℕ). x ++ remaining (g .tape) y) (take-front out (g .text))
-      (sym (drop-drop (g .taken) before bytes) ∙ ap (drop (g .taken)) continues)
+      (drop-on bytes before (g .taken) continues)
       ∙ sym (going-remains chunk rest (length out) t)
       ∙ ap (remaining t) (sym continues)
 
   call-continues : (t : Tape) (before : ℕ) (chunk rest out : List ℕ) → drop before bytes ≡ chunk ++ rest
       → Continues t before (listed t chunk out)
-  unfolding listed
   call-continues t before chunk rest out continues =
-      cond-elim (Continues t before) (badTape t) (λ bad. refused-continues t before out (refusing refusal.BadState t out) refl refl refl)
-      (λ fine. cond-elim (Continues t before) (ltb (length out) leastRoom)
-      (λ short. refused-continues t before out (refusing refusal.NoRoom t out) refl refl refl)
-      (λ roomy. writing-continues t before chunk rest out continues))
+      listed-elim (Continues t before) t chunk out (refused-continues t before out)
+      (λ fine roomy. writing-continues t before chunk rest out continues)
 
-  pub session-remains : {t : Tape} {before : ℕ} {text : List ℕ} → Session bytes t before text → text ≡ remaining t (drop before bytes)
+  session-remains : {t : Tape} {before : ℕ} {text : List ℕ} → Session bytes t before text → text ≡ remaining t (drop before bytes)
   unfolding remaining Continues
   session-remains {t} (over (inl out) last) = written-line last ∙ ap (remaining t) (sym (drop-of-length-le bytes out))
   session-remains {t} {before} (over (inr out) last) = written-line last ∙ sym (over-remains (drop before bytes) t out)
@@ -110,7 +106,7 @@ line-written line =
       last = laid out 0 line;
       says = sym (put-placed line out 0 fits);
       fine = refl;
-      writes = sym (rw (zero-add (length line)) (take-front out line));
+      writes = sym (take-placed line out);
     }
 
 -- what a call on one byte answers where there is room
@@ -134,15 +130,10 @@ module _ (bytes : List ℕ) where
       (_, call (b ∷ []) l out (laid out 0 text) r left (byte-listed t b out fine more roomy) (rest .1))
 
   some : (l : List ℕ) (t : Tape) (before : ℕ) → drop before bytes ≡ l → badTape t ≡ false → Some t before
-  some [] t before left fine = (_, over (inl (used-up before left)) (line-written (lastOf t)))
+  some [] t before left fine = (_, over (inl (drop-none bytes before left)) (line-written (lastOf t)))
+  some (b ∷ l) t before left fine =
+      go (isOver (t .next)) refl (some l (stepped t b .tape) (before + 1) (drop-on bytes before 1 left) (step-fine t b fine))
     where
-      used-up : (n : ℕ) → drop n bytes ≡ [] → length bytes ≤ n
-      used-up n e = let m = ap length e in omega (arith, length-drop n bytes)
-  some (b ∷ l) t before left fine = go (isOver (t .next)) refl (some l (stepped t b .tape) (before + 1) next (step-fine t b fine))
-    where
-      next : drop (before + 1) bytes ≡ l
-      next = sym (drop-drop 1 before bytes) ∙ ap (drop 1) left
-
       go : (e : Bool) → isOver (t .next) ≡ e → Some (stepped t b .tape) (before + 1) → Some t before
       go true e rest = (_, over (inr e) (line-written (lastOf t)))
       go false e rest = some-byte t before b l (replicate leastRoom 0) left fine e (omega arith) rest

@@ -4,28 +4,27 @@ use mathlib.Core.Path.{_≡_, refl, ap}
 use mathlib.Core.Bool.{true, false, _||_}
 use mathlib.Core.List.{List, [], _∷_, _++_}
 use Prim.Native.Nat.{ℕ, _+_, _-_, _≤_, _<_, zero-le}
-use native.Mathlib.Nat.{min-le-left}
 use native.Mathlib.Omega.{arith}
-use borrow.Author.Tests.{lt-ltb, le-ltb, ltb-false, eqb-false}
-use lib.Dec.{ltb, eqb}
-use lib.ListN.{length, take, length-append, length-take}
+use borrow.Author.Tests.{lt-ltb, le-ltb, ltb-false}
+use lib.Dec.{ltb}
+use lib.ListN.{length, length-append, length-take}
+use Rattle.ground.specs.declared.refusal.Refusal.{Refusal}
 use Rattle.ground.specs.declared.refusal.Refusal.the-variants.{NoRoom, BadState}
 use Rattle.ground.proofs.Laws.Choice.{cond-elim, or-none}
-use Rattle.wire.specs.Limits.{mostContent}
 use Rattle.link.specs.declared.receiver.Receiver.{Receiver}
 use Rattle.link.specs.Receiving.{received}
 use Rattle.link.proofs.Laws.Receiving.{length-within}
 use Rattle.lines.specs.declared.side.Side.{Side}
 use Rattle.lines.specs.Limits.{leastRoom}
-use Rattle.lines.specs.Lines.{brought}
+use Rattle.lines.specs.Lines.{carried, brought}
 use Rattle.lines.proofs.Laws.Lines.{event-within}
 use Rattle.tape.specs.declared.next.Next.{Next}
 use Rattle.tape.specs.declared.next.Next.the-variants.{Kind, Body, Bad, Full}
 use Rattle.tape.specs.declared.tape.Tape.{Tape}
 use Rattle.tape.specs.Limits.{mostRecords}
 use Rattle.tape.specs.Whole.{on}
-use Rattle.tape.specs.Taping.{freshTape, stepAt, stepped, isOver, Went, going, Told, refusing, writing, badReceivers, badTape, listed}
-use Rattle.tape.proofs.Laws.Fine.{step-fine}
+use Rattle.tape.specs.Taping.{freshTape, stepAt, stepped, isOver, Went, standing, behind, going, Told, refusing, writing, badTape, listed}
+use Rattle.tape.proofs.Laws.Fine.{body-permitted, step-fine}
 
 -- ---- rows 4 and 1 of the refusal table, in this order, and the text where neither applies
 
@@ -42,6 +41,32 @@ module _ (t : Tape) (chunk out : List ℕ) where
   unfolding listed
   lists-chunk fine roomy = rw (fine, le-ltb (length out) leastRoom roomy)
 
+-- so what holds of every refusal, and of the text where there is none, holds of what a call answers
+pub listed-elim : (P : Told → Type 0) (t : Tape) (chunk out : List ℕ) → ((why : Refusal) → P (refusing why t out))
+    → (badTape t ≡ false → leastRoom ≤ length out → P (writing (going (length out) t chunk) out))
+    → P (listed t chunk out)
+unfolding listed
+listed-elim P t chunk out refused lists =
+    cond-elim P (badTape t) (λ bad. refused BadState)
+    (λ fine. cond-elim P (ltb (length out) leastRoom) (λ short. refused NoRoom)
+    (λ roomy. lists fine (ltb-false (length out) leastRoom roomy)))
+
+-- and what holds where it stands, and goes back over a byte that it takes, holds of how it goes over its chunk
+module _ (P : ℕ → Tape → List ℕ → Went → Type 0)
+    (stands : (room : ℕ) (t : Tape) (chunk : List ℕ) → P room t chunk (standing t))
+    (on : (room : ℕ) (t : Tape) (b : ℕ) (bs : List ℕ) (m : Went) → isOver (t .next) ≡ false → leastRoom ≤ room
+    → P (room - length (stepped t b .text)) (stepped t b .tape) bs m → P room t (b ∷ bs) (behind (stepped t b) m)) where
+  pub going-elim : (chunk : List ℕ) (room : ℕ) (t : Tape) → P room t chunk (going room t chunk)
+  unfolding going
+  going-elim [] room t = stands room t []
+  going-elim (b ∷ bs) room t =
+      let s = stepped t b in
+      let m = going (room - length (s .text)) (s .tape) bs in
+      let rest = going-elim bs (room - length (s .text)) (s .tape) in
+      cond-elim (P room t (b ∷ bs)) (isOver (t .next) || ltb room leastRoom) (λ stops. stands room t (b ∷ bs))
+      (λ goes. let e = or-none (isOver (t .next)) (ltb room leastRoom) goes in
+      on room t b bs m (e .0) (ltb-false room leastRoom (e .1)) rest)
+
 -- ---- what it takes and writes has room
 
 -- the line of a call has room where the longest has
@@ -49,9 +74,8 @@ pub brought-within : (n : ℕ) (side : Side) (s : Receiver) (piece : List ℕ) �
     → length (brought n side (received s piece)) ≤ leastRoom
 brought-within n side s piece few =
     let said = received s piece in
-    let h : length (take (said .length) (said .content)) ≤ mostContent =
-    omega (arith, length-take (said .length) (said .content), min-le-left (said .length) (length (said .content)), length-within s piece) in
-    event-within n side (said .event) (take (said .length) (said .content)) (omega arith) h
+    event-within n side (said .event) (carried said) (omega arith)
+    (omega (arith, length-take (said .length) (said .content), length-within s piece))
 
 -- a byte counts one record at most, and none behind the last permitted
 step-few : (next : Next) (t : Tape) (b : ℕ) → t .next ≡ next → badTape t ≡ false → t .records ≤ mostRecords
@@ -59,24 +83,21 @@ step-few : (next : Next) (t : Tape) (b : ℕ) → t .next ≡ next → badTape t
 unfolding stepAt
 step-few Kind t b e fine few = (few, zero-le)
 step-few (Body side) t b e fine few =
-    let last = or-none (badReceivers (t .receivers)) (eqb (t .records) mostRecords) (rw e at fine) .1 in
-    (omega (arith, eqb-false (t .records) mostRecords last), brought-within (t .records) side (on side (t .receivers)) (b ∷ []) few)
+    let permitted = body-permitted (t .records) side (t .receivers) (rw e at fine) few in
+    (omega arith, brought-within (t .records) side (on side (t .receivers)) (b ∷ []) few)
 step-few Bad t b e fine few = (few, zero-le)
 step-few Full t b e fine few = (few, zero-le)
 
 going-within : (chunk : List ℕ) (room : ℕ) (t : Tape) → badTape t ≡ false → t .records ≤ mostRecords
     → let g = going room t chunk in (g .taken ≤ length chunk) × (length (g .text) ≤ room) × (g .tape .records ≤ mostRecords)
-unfolding going
-going-within [] room t fine few = (zero-le, zero-le, few)
-going-within (b ∷ bs) room t fine few =
-    let s = stepped t b in
-    let f = step-few (t .next) t b refl fine few in
-    let m = going (room - length (s .text)) (s .tape) bs in
-    let r = going-within bs (room - length (s .text)) (s .tape) (step-fine t b fine) (f .0) in
-    cond-elim (λ (g : Went). (g .taken ≤ length (b ∷ bs)) × (length (g .text) ≤ room) × (g .tape .records ≤ mostRecords))
-    (isOver (t .next) || ltb room leastRoom) (λ stops. (zero-le, zero-le, few))
-    (λ goes. let roomy = ltb-false room leastRoom (or-none (isOver (t .next)) (ltb room leastRoom) goes .1) in
-    (omega (arith, r .0), omega (arith, r .1, f .1, length-append (s .text) (m .text)), r .2))
+going-within =
+    going-elim
+    (λ (room : ℕ) (t : Tape) (chunk : List ℕ) (g : Went). badTape t ≡ false → t .records ≤ mostRecords
+    → (g .taken ≤ length chunk) × (length (g .text) ≤ room) × (g .tape .records ≤ mostRecords))
+    (λ room t chunk fine few. (zero-le, zero-le, few))
+    (λ room t b bs m more roomy rest fine few. let f = step-few (t .next) t b refl fine few in
+    let r = rest (step-fine t b fine) (f .0) in
+    (omega (arith, r .0), omega (arith, r .1, f .1, length-append (stepped t b .text) (m .text)), r .2))
 
 -- of a call, refused or not
 pub record Within (chunk out : List ℕ) (d : Told) : Type 0 where
@@ -85,11 +106,9 @@ pub record Within (chunk out : List ℕ) (d : Told) : Type 0 where
   pub records : d .tape .records ≤ mostRecords
 
 pub listed-within : (t : Tape) (chunk out : List ℕ) → t .records ≤ mostRecords → Within chunk out (listed t chunk out)
-unfolding listed
 listed-within t chunk out few =
-    cond-elim (Within chunk out) (badTape t) (λ bad. record { taken = zero-le; written = zero-le; records = few })
-    (λ fine. cond-elim (Within chunk out) (ltb (length out) leastRoom) (λ short. record { taken = zero-le; written = zero-le; records = few })
-    (λ roomy. let g = going-within chunk (length out) t fine few in record { taken = g .0; written = g .1; records = g .2 }))
+    listed-elim (Within chunk out) t chunk out (λ why. record { taken = zero-le; written = zero-le; records = few })
+    (λ fine roomy. let g = going-within chunk (length out) t fine few in record { taken = g .0; written = g .1; records = g .2 })
 
 -- ---- it takes something
 
@@ -120,17 +139,11 @@ pub fresh-fine : badTape freshTape ≡ false
 fresh-fine = refl
 
 going-fine : (chunk : List ℕ) (room : ℕ) (t : Tape) → badTape t ≡ false → badTape (going room t chunk .tape) ≡ false
-unfolding going
-going-fine [] room t fine = fine
-going-fine (b ∷ bs) room t fine =
-    let s = stepped t b in
-    let rest = going-fine bs (room - length (s .text)) (s .tape) (step-fine t b fine) in
-    cond-elim (λ (g : Went). badTape (g .tape) ≡ false) (isOver (t .next) || ltb room leastRoom) (λ stops. fine) (λ goes. rest)
+going-fine =
+    going-elim (λ (room : ℕ) (t : Tape) (chunk : List ℕ) (g : Went). badTape t ≡ false → badTape (g .tape) ≡ false)
+    (λ room t chunk fine. fine) (λ room t b bs m more roomy rest fine. rest (step-fine t b fine))
 
 -- a call leaves a tape that it does not refuse so
 pub listed-fine : (t : Tape) (chunk out : List ℕ) → badTape t ≡ false → badTape (listed t chunk out .tape) ≡ false
-unfolding listed
 listed-fine t chunk out fine =
-    rw fine
-    (cond-elim (λ (d : Told). badTape (d .tape) ≡ false) (ltb (length out) leastRoom) (λ short. fine)
-    (λ roomy. going-fine chunk (length out) t fine))
+    listed-elim (λ (d : Told). badTape (d .tape) ≡ false) t chunk out (λ why. fine) (λ good roomy. going-fine chunk (length out) t fine)

@@ -8,7 +8,7 @@ use native.Mathlib.Omega.{arith}
 use borrow.Author.Needs.{needs}
 use borrow.Author.Tests.{leb-true, leb-false}
 use lib.ListN.{length, take, drop, length-drop}
-use lib.Seq.{take-all}
+use Rattle.ground.proofs.Laws.Lists.{take-rest}
 use Rattle.link.specs.declared.receiver.Receiver.{Receiver}
 use Rattle.lines.specs.Limits.{leastRoom}
 use Rattle.tape.specs.declared.receivers.Receivers.{Receivers}
@@ -74,12 +74,14 @@ loop-less c = omega arith
 
 loop-again : tie.Need-loop-again Inv-loop μ-loop
 loop-again c =
-    let l = c .before .before .before .before .before .before .before .before .loop in
-    let a = c .before .before .before .before .before .before .before .before .before .before .before .before .args in
-    let goes : Next → ℕ → Type 0 =
-    λ x n. Goes (a .chunk .now) (asked (a .chunk .now) (a .tape) (a .out .now)) (l .out) (being (l .records) x (l .receivers)) n (l .written) in (
+    let test = c .before .before .before .before in
+    let l = test .before .before .before .before .loop in
+    let a = test .before .before .before .before .before .before .before .before .args in
+    let goes : Next → ℕ → Type 0 = λ x n. Goes (a .chunk .now) (asked (a .chunk .now) (a .tape) (a .out .now)) (l .out)
+    (being (l .records) x (l .receivers)) n (l .written) in (
       subst⁻¹ (λ (x : Next). goes x (l .taken + 1)) (c .behind-kind .ensures)
-          (next-kind _ _ (roomy (c .before .before .before .before)) (omega arith) (subst (λ (x : Next). goes x (l .taken)) (c .before .before .enum-told .given .1) (l .inv .0))),
+          (next-kind _ _ (roomy test) (omega arith)
+          (subst (λ (x : Next). goes x (l .taken)) (c .before .before .enum-told .given .1) (l .inv .0))),
       l .inv .1,
       l .inv .2,
     )
@@ -99,73 +101,82 @@ part-rest-start c = omega arith
 part-rest-end : tie.Need-part-rest-end Inv-loop μ-loop
 part-rest-end c = omega arith
 
+-- the turn of the loop, and the call's entry
+abbrev turn : tie.After-on Inv-loop μ-loop → tie.At-loop Inv-loop μ-loop
+turn o = o .before .before .before .before .before .before .before .before
+
+abbrev entry : tie.After-on Inv-loop μ-loop → tie.Start Inv-loop μ-loop
+entry o = turn o .before .before .before .before
+
 -- the chunk, and what all of it gives
 abbrev whole : tie.After-on Inv-loop μ-loop → List ℕ
-whole o = o .before .before .before .before .before .before .before .before .before .before .before .before .args .chunk .now
+whole o = entry o .args .chunk .now
 
 abbrev all : tie.After-on Inv-loop μ-loop → Told
-all o = asked (whole o) (o .before .before .before .before .before .before .before .before .before .before .before .before .args .tape) (o .before .before .before .before .before .before .before .before .before .before .before .before .args .out .now)
+all o = asked (whole o) (entry o .args .tape) (entry o .args .out .now)
 
 -- a body is next
-body-next : (o : tie.After-on Inv-loop μ-loop) → let l = o .before .before .before .before .before .before .before .before .loop in
+body-next : (o : tie.After-on Inv-loop μ-loop) → let l = turn o .loop in
     Goes (whole o) (all o) (l .out) (being (l .records) (Body (o .before .before .next .given .0 .0)) (l .receivers)) (l .taken) (l .written)
 body-next o =
-    let l = o .before .before .before .before .before .before .before .before .loop in
+    let l = turn o .loop in
     subst (λ (x : Next). Goes (whole o) (all o) (l .out) (being (l .records) x (l .receivers)) (l .taken) (l .written))
     (o .before .before .next .given .1) (l .inv .0)
 
--- the part that was lent is all that is left of the chunk
-rest : (o : tie.After-on Inv-loop μ-loop) → let n = o .before .before .before .before .before .before .before .before .loop .taken in take (length (whole o) - n) (drop n (whole o)) ≡ drop n (whole o)
-rest o =
-    let n = o .before .before .before .before .before .before .before .before .loop .taken in
-    take-all (length (whole o) - n) (drop n (whole o)) (simp length-drop (omega arith))
-
 slice-aggregate-run : tie.Need-slice-aggregate-run Inv-loop μ-loop
-slice-aggregate-run c = sym (c .before .before .before .before .before .before .before .before .before .before .loop .inv .2)
+slice-aggregate-run c = sym (turn (c .before .before) .loop .inv .2)
 
 run-requires : tie.Need-run-requires Inv-loop μ-loop
 run-requires c κs =
     let o = c .before .before .before in
-    let l = o .before .before .before .before .before .before .before .before .loop in
+    let l = turn o .loop in
     let goes = body-next o in
     let some : 0 < length (drop (l .taken) (whole o)) = simp length-drop (omega arith) in
-    (rw (o .on .ensures) (on-good _ _ _ goes), (permitted _ _ goes, (rw (rest o) some, (omega (arith, l .inv .2), goes .ends))))
+    let there : 0 < length (take (length (whole o) - l .taken) (drop (l .taken) (whole o))) = rw (take-rest (whole o) (l .taken)) some in
+    (rw (o .on .ensures) (on-good _ _ _ goes), (permitted _ _ goes, (there, (omega (arith, l .inv .2), goes .ends))))
 
 -- what was heard, of the receiver that the tape holds and of all that is left
 heard : (c : tie.After-run Inv-loop μ-loop)
     → let o = c .before .before .before .before in
-    let l = o .before .before .before .before .before .before .before .before .loop in
+    let l = turn o .loop in
     let side = o .before .before .next .given .0 .0 in
     Heard side (on side (l .receivers)) (l .records) (drop (l .taken) (whole o)) (l .out) (l .written)
     (left (c .run .result) (c .run .last .1 .1 .1 .1 .1 .0))
 heard c =
     let o = c .before .before .before .before in
-    let l = o .before .before .before .before .before .before .before .before .loop in
+    let l = turn o .loop in
     let side = o .before .before .next .given .0 .0 in
     let after = left (c .run .result) (c .run .last .1 .1 .1 .1 .1 .0) in
     let part = take (length (whole o) - l .taken) (drop (l .taken) (whole o)) in
-    subst (λ (x : List ℕ). Heard side (on side (l .receivers)) (l .records) x (l .out) (l .written) after) (rest o)
+    subst (λ (x : List ℕ). Heard side (on side (l .receivers)) (l .records) x (l .out) (l .written) after)
+    (take-rest (whole o) (l .taken))
     (subst (λ (s : Receiver). Heard side s (l .records) part (l .out) (l .written) after) (o .on .ensures) (c .run .ensures))
 
 -- behind it a kind is next again
 kind-next : (c : tie.After-run Inv-loop μ-loop)
     → let o = c .before .before .before .before in
-    let l = o .before .before .before .before .before .before .before .before .loop in
+    let l = turn o .loop in
     let side = o .before .before .next .given .0 .0 in
     let r = c .run .result in
     Goes (whole o) (all o) (c .run .last .1 .1 .1 .1 .1 .0) (being (l .records + r .count) Kind (turned side (r .receiver) (l .receivers)))
     (l .taken + (2 * r .count - 1)) (r .end)
-kind-next c = next-run _ _ (roomy (c .before .before .before .before .before .before .before .before)) (body-next (c .before .before .before .before)) (heard c)
+kind-next c =
+    let o = c .before .before .before .before in
+    next-run _ _ (roomy (o .before .before .before .before)) (body-next o) (heard c)
 
--- some records were taken, not more than are permitted and not beyond the chunk
+-- some records were taken, not more than are permitted and not beyond the chunk, which has no more bytes than can be counted
 takes : (c : tie.After-run Inv-loop μ-loop)
     → let o = c .before .before .before .before in
-    let l = o .before .before .before .before .before .before .before .before .loop in
+    let l = turn o .loop in
     let n = c .run .result .count in
-    (1 ≤ n) × (l .records + n ≤ mostRecords) × (l .taken + (2 * n - 1) ≤ length (whole o))
+    (1 ≤ n) × (l .records + n ≤ mostRecords) × (l .taken + (2 * n - 1) ≤ length (whole o)) × (length (whole o) < 0x8000000000000000)
 takes c =
-    let o = c .before .before .before .before in
-    (run-some _ _ (roomy (o .before .before .before .before)) (body-next o) (heard c), kind-next c .few, kind-next c .part)
+    let o = c .before .before .before .before in (
+      run-some _ _ (roomy (o .before .before .before .before)) (body-next o) (heard c),
+      kind-next c .few,
+      kind-next c .part,
+      omega (arith, entry o .good),
+    )
 
 turned-requires : tie.Need-turned-requires Inv-loop μ-loop
 turned-requires c κs = search needs
@@ -177,25 +188,22 @@ add-records : tie.Need-add-records Inv-loop μ-loop
 add-records c = omega (arith, takes (c .before .before .before .before .before))
 
 mul-taken : tie.Need-mul-taken Inv-loop μ-loop
-mul-taken c =
-    omega (arith, takes (c .before .before .before .before .before .before), c .before .before .before .before .before .before .before .before .before .before .before .before .before .before .before .before .before .before .before .before .before .before .good)
+mul-taken c = omega (arith, takes (c .before .before .before .before .before .before))
 
 sub-taken : tie.Need-sub-taken Inv-loop μ-loop
 sub-taken c = omega (arith, takes (c .before .before .before .before .before .before))
 
 add-taken-2 : tie.Need-add-taken-2 Inv-loop μ-loop
-add-taken-2 c =
-    omega (arith, takes (c .before .before .before .before .before .before), c .before .before .before .before .before .before .before .before .before .before .before .before .before .before .before .before .before .before .before .before .before .before .good)
+add-taken-2 c = omega (arith, takes (c .before .before .before .before .before .before))
 
 loop-less-2 : tie.Need-loop-less-2 Inv-loop μ-loop
-loop-less-2 c =
-    omega (arith, takes (c .before .before .before .before .before .before), c .before .before .before .before .before .before .before .before .before .before .before .before .before .before .before .before .before .loop-test .taken)
+loop-less-2 c = omega (arith, takes (c .before .before .before .before .before .before))
 
 loop-again-2 : tie.Need-loop-again-2 Inv-loop μ-loop
 loop-again-2 c =
     let r = c .before .before .before .before .before .before in
     let o = r .before .before .before .before in
-    let l = o .before .before .before .before .before .before .before .before .loop in
+    let l = turn o .loop in
     let q = r .run .result in (
       subst⁻¹ (λ (x : Receivers). Goes (whole o) (all o) (r .run .last .1 .1 .1 .1 .1 .0) (being (l .records + q .count) Kind x)
           (l .taken + (2 * q .count - 1)) (q .end)) (c .before .before .turned .ensures) (kind-next r),

@@ -1,10 +1,11 @@
 -- `chunk::list` meets its contract: a tape that no row of the refusal table names goes over its chunk.
 -- Assumes nothing.
-use mathlib.Core.Path.{sym, ap, _∙_}
+use mathlib.Core.Path.{_≡_, sym, ap, _∙_}
+use mathlib.Core.Bool.{false}
 use native.Mathlib.Omega.{arith}
 use borrow.Author.Needs.{needs}
-use borrow.Author.Tests.{lt-ltb, le-ltb}
-use Rattle.tape.specs.Taping.{listed}
+use Rattle.tape.specs.Taping.{badTape}
+use Rattle.tape.proofs.Laws.Taping.{refuses-state, refuses-room, lists-chunk}
 use Rattle.chunks.proofs.Laws.Chunks.{over}
 use Rattle.chunks.proofs.chunk.list.Statement.{statement}
 use Rattle.chunks.proofs.chunk.list.Tie as tie
@@ -16,35 +17,35 @@ refused-requires : tie.Need-refused-requires
 refused-requires c κs = search needs
 
 returns : tie.Need-returns
-unfolding listed
 returns c =
-    rw (sym (c .before .before .is-bad .ensures) ∙ c .before .if1 .taken)
-    (ap (over (c .before .before .before .before .before .args .out .now)) (c .refused .ensures))
+    let a = c .before .before .before .before .before .args in
+    ap (over (a .out .now)) (c .refused .ensures)
+    ∙ sym (refuses-state (a .tape) (a .chunk .now) (a .out .now) (sym (c .before .before .is-bad .ensures) ∙ c .before .if1 .taken))
+
+-- no row names a tape that is not bad
+fine : (c : tie.Else1) → badTape (c .before .before .before .before .args .tape) ≡ false
+fine c = sym (c .before .is-bad .ensures) ∙ c .if1 .left
 
 refused-requires-2 : tie.Need-refused-requires-2
 refused-requires-2 c κs = search needs
 
 returns-2 : tie.Need-returns-2
-unfolding listed
 returns-2 c =
-    rw (sym (c .before .before .before .is-bad .ensures) ∙ c .before .before .if1 .left, lt-ltb _ _ (c .before .if2 .taken))
-    (ap (over (c .before .before .before .before .before .before .args .out .now)) (c .refused2 .ensures))
+    let a = c .before .before .before .before .before .before .args in
+    ap (over (a .out .now)) (c .refused2 .ensures)
+    ∙ sym (refuses-room (a .tape) (a .chunk .now) (a .out .now) (fine (c .before .before)) (c .before .if2 .taken))
 
 go-requires : tie.Need-go-requires
-go-requires c κs = (sym (c .before .before .before .is-bad .ensures) ∙ c .before .before .if1 .left, omega arith)
+go-requires c κs = (fine (c .before .before), omega arith)
 
 same-length : tie.Need-same-length
 same-length c = search needs
 
 returns-3 : tie.Need-returns-3
-unfolding listed
 returns-3 c =
-    rw (
-      sym (c .before .before .before .before .before .before .is-bad .ensures)
-          ∙ c .before .before .before .before .before .if1 .left,
-      le-ltb _ _ (c .before .before .before .before .if2 .left),
-    )
-    (c .before .before .go .ensures)
+    let e = c .before .before .before .before in
+    let a = e .before .before .before .before .before .args in
+    c .before .before .go .ensures ∙ sym (lists-chunk (a .tape) (a .chunk .now) (a .out .now) (fine (e .before)) (e .if2 .left))
 
 pub list-spec : {M : Type 1} → statement M
 list-spec =

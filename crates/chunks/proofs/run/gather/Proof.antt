@@ -5,7 +5,7 @@ use Prim.Native.Nat.{_*_, _-_, _≤_}
 use native.Mathlib.Omega.{arith}
 use borrow.Author.Tests.{eqb-true}
 use lib.ListN.{length, take, getD, length-set}
-use Rattle.chunks.specs.Running.{linked}
+use Rattle.chunks.specs.Running.{linked, Gathered}
 use Rattle.chunks.proofs.Laws.Running.{gather-first, gather-next, gathered}
 use Rattle.chunks.proofs.run.gather.Statement.{statement}
 use Rattle.chunks.proofs.run.gather.Tie as tie
@@ -49,13 +49,14 @@ mul-piece c = omega arith
 shared-slice-read-piece-2 : tie.Need-shared-slice-read-piece-2 Inv-loop μ-loop
 shared-slice-read-piece-2 c = omega arith
 
+-- the piece keeps its length
+kept : (c : tie.At-loop Inv-loop μ-loop) → length (c .loop .piece) ≡ length (c .before .before .before .before .before .args .piece .now)
+kept c =
+    let a = c .before .before .before .before .before .args in
+    c .loop .inv .2 ∙ length-set (a .piece .now) 0 (getD (a .chunk .now) 0 0)
+
 slice-write-piece-2 : tie.Need-slice-write-piece-2 Inv-loop μ-loop
-slice-write-piece-2 c =
-    omega (
-      arith,
-      length-set (c .before .before .before .before .before .before .before .before .before .args .piece .now) 0
-          (getD (c .before .before .before .before .before .before .before .before .before .args .chunk .now) 0 0),
-    )
+slice-write-piece-2 c = omega (arith, kept (c .before .before .before .before))
 
 add-count : tie.Need-add-count Inv-loop μ-loop
 add-count c = omega arith
@@ -65,10 +66,10 @@ loop-less c = omega arith
 
 loop-again : tie.Need-loop-again Inv-loop μ-loop
 loop-again c =
-    let l = c .before .before .before .before .loop in
-    let a = c .before .before .before .before .before .before .before .before .before .args in
-    let n = length-set (c .before .before .before .before .before .before .before .before .before .args .piece .now) 0
-    (getD (c .before .before .before .before .before .before .before .before .before .args .chunk .now) 0 0) in (
+    let t = c .before .before .before .before in
+    let l = t .loop in
+    let a = t .before .before .before .before .before .args in
+    let n = kept t in (
       omega arith,
       omega arith,
       length-set (l .piece) (l .count) (getD (a .chunk .now) (2 * l .count) 0) ∙ l .inv .2,
@@ -76,37 +77,26 @@ loop-again c =
           (eqb-true _ _ (c .before .if1 .taken)) (l .inv .3),
     )
 
+-- the bodies that stand in the piece behind a turn
+behind : (c : tie.At-loop Inv-loop μ-loop) → let a = c .before .before .before .before .before .args in let l = c .loop in
+    (l .count ≤ length (l .piece)) × Gathered (a .kind) (a .most) (a .chunk .now) (take (l .count) (l .piece))
+behind c =
+    let l = c .loop in
+    let e = c .before .before .before .before .before in
+    let a = e .args in
+    gathered (a .kind) (a .most) (a .chunk .now) (l .piece) (l .count) (l .inv .0) (l .inv .1) (omega (arith, kept c, e .pre)) (l .inv .3)
+
 same-length : tie.Need-same-length Inv-loop μ-loop
-same-length c =
-    omega (
-      arith,
-      length-set (c .before .before .before .before .before .before .before .before .args .piece .now) 0
-          (getD (c .before .before .before .before .before .before .before .before .args .chunk .now) 0 0),
-    )
+same-length c = omega (arith, kept (c .before .before .before))
 
 returns : tie.Need-returns Inv-loop μ-loop
-returns c =
-    let l = c .before .before .before .loop in
-    let a = c .before .before .before .before .before .before .before .before .args in
-    let n = length-set (c .before .before .before .before .before .before .before .before .args .piece .now) 0
-    (getD (c .before .before .before .before .before .before .before .before .args .chunk .now) 0 0) in
-    gathered (a .kind) (a .most) (a .chunk .now) (l .piece) (l .count) (omega arith) (omega arith) (omega arith) (l .inv .3)
+returns c = behind (c .before .before .before)
 
 same-length-2 : tie.Need-same-length-2 Inv-loop μ-loop
-same-length-2 c =
-    omega (
-      arith,
-      length-set (c .before .before .before .before .before .before .args .piece .now) 0
-          (getD (c .before .before .before .before .before .before .args .chunk .now) 0 0),
-    )
+same-length-2 c = omega (arith, kept (c .before))
 
 returns-2 : tie.Need-returns-2 Inv-loop μ-loop
-returns-2 c =
-    let l = c .before .loop in
-    let a = c .before .before .before .before .before .before .args in
-    let n = length-set (c .before .before .before .before .before .before .args .piece .now) 0
-    (getD (c .before .before .before .before .before .before .args .chunk .now) 0 0) in
-    gathered (a .kind) (a .most) (a .chunk .now) (l .piece) (l .count) (omega arith) (omega arith) (omega arith) (l .inv .3)
+returns-2 c = behind (c .before)
 
 pub gather-spec : {M : Type 1} → statement M
 gather-spec =

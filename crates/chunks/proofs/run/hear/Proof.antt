@@ -5,15 +5,16 @@ use Prim.Native.Nat.{ℕ, _+_, _-_, _≤_, _<_, zero-le}
 use native.Mathlib.Nat.{add-zero}
 use native.Mathlib.Omega.{arith}
 use borrow.Author.Tests.{leb-true, leb-false}
-use lib.ListN.{length, drop, length-drop}
-use lib.Seq.{take-all}
+use lib.ListN.{length, drop}
 use Rattle.ground.specs.Laying.{placed}
+use Rattle.ground.proofs.Laws.Lists.{take-rest}
 use Rattle.wire.specs.Limits.{mostContent}
 use Rattle.link.specs.Receiving.{Said, saying, received}
 use Rattle.link.proofs.Laws.Receiving.{length-within}
 use Rattle.lines.specs.Limits.{leastRoom}
 use Rattle.lines.specs.Lines.{brought}
 use Rattle.lines.proofs.Laws.Lines.{puts-heard}
+use Rattle.tape.specs.Limits.{mostRecords}
 use Rattle.chunks.specs.Running.{leaving, running}
 use Rattle.chunks.proofs.Laws.Hearing.{Goes, leavingBehind, out-of-room, out-of-bodies, takes-some, takes-most, next-call, none-before}
 use Rattle.chunks.proofs.run.hear.Statement.{statement}
@@ -59,74 +60,72 @@ part-receive-end c = omega arith
 receive-requires : tie.Need-receive-requires Inv-loop μ-loop
 receive-requires c κs = tt
 
--- the call was on all that is left
-says : (c : tie.After-struct-known Inv-loop μ-loop) → let l = c .before .before .before .before .before .before .before .before .loop in
-    saying (c .before .before .receive .result) ≡ received (l .receiver)
-    (drop (l .count) (c .before .before .before .before .before .before .before .before .before .before .before .args .bodies .now))
-says c =
-    let l = c .before .before .before .before .before .before .before .before .loop in
-    let bodies = c .before .before .before .before .before .before .before .before .before .before .before .args .bodies .now in
-    let h : length (drop (l .count) bodies) ≤ length bodies - l .count = simp length-drop (omega arith) in
-    c .before .before .receive .ensures ∙ ap (received (l .receiver)) (take-all (length bodies - l .count) (drop (l .count) bodies) h)
+-- the turn of the loop, and the call's entry
+abbrev turn : tie.After-struct-known Inv-loop μ-loop → tie.At-loop Inv-loop μ-loop
+turn c = c .before .before .before .before .before .before .before .before
 
--- what it took and what it carries
+abbrev entry : tie.After-struct-known Inv-loop μ-loop → tie.Start Inv-loop μ-loop
+entry c = turn c .before .before .before
+
+-- the call was on all that is left
+says : (c : tie.After-struct-known Inv-loop μ-loop) → let l = turn c .loop in
+    saying (c .before .before .receive .result) ≡ received (l .receiver) (drop (l .count) (entry c .args .bodies .now))
+says c =
+    let l = turn c .loop in
+    c .before .before .receive .ensures ∙ ap (received (l .receiver)) (take-rest (entry c .args .bodies .now) (l .count))
+
+-- what it took and what it carries, and how many records there may be
 takes : (c : tie.After-struct-known Inv-loop μ-loop)
-    → let l = c .before .before .before .before .before .before .before .before .loop in let r = c .before .before .receive .result in
-    (0 < r .taken) × (l .count + r .taken ≤ length
-    (c .before .before .before .before .before .before .before .before .before .before .before .args .bodies .now)) ×
-    (r .length ≤ mostContent)
+    → let l = turn c .loop in let a = entry c .args in let r = c .before .before .receive .result in
+    (0 < r .taken) × (l .count + r .taken ≤ length (a .bodies .now)) × (r .length ≤ mostContent)
+    × (a .records + length (a .bodies .now) ≤ mostRecords)
 takes c =
-    let l = c .before .before .before .before .before .before .before .before .loop in
-    let bodies = c .before .before .before .before .before .before .before .before .before .before .before .args .bodies .now in
+    let l = turn c .loop in
     let n = ap (λ (said : Said). said .taken) (says c) in (
       omega (arith, n, takes-some _ _ _ _ (l .inv .0) (c .before .before .before .before .before .before .before .loop-test .taken)),
       omega (arith, n, takes-most _ _ _ _ (l .inv .0)),
-      omega (arith, ap (λ (said : Said). said .length) (says c), length-within (l .receiver) (drop (l .count) bodies)),
+      omega (arith, ap (λ (said : Said). said .length) (says c), length-within (l .receiver) (drop (l .count) (entry c .args .bodies .now))),
+      omega (arith, entry c .pre),
     )
 
 add-count : tie.Need-add-count Inv-loop μ-loop
-add-count c = omega (arith, takes c, c .before .before .before .before .before .before .before .before .before .before .before .pre)
+add-count c = omega (arith, takes c)
 
 sub-put-heard : tie.Need-sub-put-heard Inv-loop μ-loop
 sub-put-heard c = omega (arith, takes c)
 
 cast-put-heard : tie.Need-cast-put-heard Inv-loop μ-loop
-cast-put-heard c = omega (arith, takes c, c .before .before .before .before .before .before .before .before .before .before .before .pre)
+cast-put-heard c = omega (arith, takes c)
 
 add-put-heard : tie.Need-add-put-heard Inv-loop μ-loop
-add-put-heard c = omega (arith, takes c, c .before .before .before .before .before .before .before .before .before .before .before .pre)
+add-put-heard c = omega (arith, takes c)
 
 put-heard-requires : tie.Need-put-heard-requires Inv-loop μ-loop
 put-heard-requires c κs = tt
 
 loop-less : tie.Need-loop-less Inv-loop μ-loop
-loop-less c =
-    omega (arith, takes (c .before .before .before .before), c .before .before .before .before .before .before .before .before .before .before .before .loop-test .taken)
+loop-less c = omega (arith, takes (c .before .before .before .before))
 
 loop-again : tie.Need-loop-again Inv-loop μ-loop
 loop-again c =
     let d = c .before .before .before .before in
-    let l = c .before .before .before .before .before .before .before .before .before .before .before .before .loop in
-    let a = c .before .before .before .before .before .before .before .before .before .before .before .before .before .before .before .args in
+    let l = turn d .loop in
+    let a = entry d .args in
     let p = c .before .before .put-heard in
-    let r = c .before .before .before .before .before .before .receive .result in
+    let r = d .before .before .receive .result in
     let said = received (l .receiver) (drop (l .count) (a .bodies .now)) in
     let number : a .records + (l .count + r .taken - 1) ≡ a .records + l .count + (said .taken - 1) =
     omega (arith, takes d, ap (λ (s : Said). s .taken) (says d)) in
-    let fits : leastRoom ≤ length (l .out) - l .end = omega (
-      arith,
-      leb-true leastRoom (c .before .before .before .before .before .before .before .before .before .room .result)
-          (c .before .before .before .before .before .before .before .before .if1 .taken),
-      c .before .before .before .before .before .before .before .before .before .room .ensures,
-    ) in
+    let tested = d .before .before .before .before in
+    let fits : leastRoom ≤ length (l .out) - l .end =
+    omega (arith, leb-true leastRoom (tested .before .room .result) (tested .if1 .taken), tested .before .room .ensures) in
     let puts = p .ensures
     ∙ puts-heard (a .records + (l .count + r .taken - 1)) (a .side) (saying r) (l .out) (l .end) (takes d .2) fits
     ∙ ap₂ (λ (n : ℕ) (s : Said). placed (brought n (a .side) s) (l .out) (l .end)) number (says d) in (
       subst⁻¹ (λ (s : Said). Goes (a .side) (a .records) (a .bodies .now)
           (leaving (running (length (a .out .now) - a .at) (a .side) (a .records) (a .receiver) (a .bodies .now)) (a .out .now) (a .at))
           (p .last .1 .1 .1 .0) (s .receiver) (l .count + s .taken) (p .result .end)) (says d)
-          (next-call _ _ _ _ (l .inv .0)
-          (omega (arith, c .before .before .before .before .before .before .before .before .before .before .before .before .before .before .before .pre)) fits (p .result) (p .last .1 .1 .1 .0) puts),
+          (next-call _ _ _ _ (l .inv .0) (takes d .3) fits (p .result) (p .last .1 .1 .1 .0) puts),
       omega (arith, p .kept, l .inv .1),
     )
 

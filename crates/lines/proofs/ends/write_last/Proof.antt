@@ -3,15 +3,15 @@
 use mathlib.Core.Path.{_≡_, sym, ap, _∙_}
 use mathlib.Core.List.{List}
 use Prim.Native.Nat.{ℕ, _≤_, zero-le}
-use native.Mathlib.Nat.{zero-add}
 use native.Mathlib.Omega.{arith}
 use borrow.Author.Needs.{needs}
 use lib.ListN.{length, take, replicate}
 use lib.Seq.{length-take-le}
 use Rattle.ground.specs.Laying.{Ended, ended, placed, put}
-use Rattle.ground.proofs.Laws.Laying.{length-laid, take-front, last, then, puts-placed}
+use Rattle.ground.proofs.Laws.Laying.{length-laid, last, then, puts-placed, take-placed}
 use Rattle.text.specs.Ascii.{ascii}
 use Rattle.text.specs.Decimal.{decimal}
+use Rattle.lines.specs.Limits.{mostLast}
 use Rattle.lines.specs.Lines.{word, lastLine}
 use Rattle.lines.proofs.Laws.Lines.{last-within}
 use Rattle.lines.proofs.ends.write_last.Statement.{statement}
@@ -47,10 +47,14 @@ slice-aggregate-put-4 c = search needs
 put-requires-2 : tie.Need-put-requires-2
 put-requires-2 c κs = search needs
 
--- the line was put to the front of sixteen places
-lies : (c : tie.After-line6)
-    → let a = c .before .before .before .before .before .before .before .before .before .before .before .before .before .before .args in
-    ended (c .before .put2 .result) (c .before .put2 .last .1 .0) ≡ placed (lastLine (a .ending) (a .records)) (replicate 16 0) 0
+-- the line that was asked for
+abbrev asked : tie.After-line6 → List ℕ
+asked c =
+    let a = c .before .before .before .before .before .before .before .before .before .before .before .before .before .before .args in
+    lastLine (a .ending) (a .records)
+
+-- it was put to the front of its places
+lies : (c : tie.After-line6) → ended (c .before .put2 .result) (c .before .put2 .last .1 .0) ≡ placed (asked c) (replicate mostLast 0) 0
 unfolding lastLine ascii
 lies c =
     let d = c .before .before .before .before .before in
@@ -59,38 +63,29 @@ lies c =
     let a = w .before .before .args in
     puts-placed
     (then (word (a .ending)) (p .put .result) (p .put .last .1 .0)
-    (p .put .ensures ∙ ap (λ (l : List ℕ). put l (replicate 16 0) 0) (w .word .ensures .letters))
+    (p .put .ensures ∙ ap (λ (l : List ℕ). put l (replicate mostLast 0) 0) (w .word .ensures .letters))
     (then (decimal (a .records)) (d .put-decimal .result) (d .put-decimal .last .1 .0) (d .put-decimal .ensures)
     (last (c .before .put2 .ensures))))
     zero-le
     (last-within (a .ending) (a .records) (omega (arith, w .before .before .fits)))
 
-length-line : (c : tie.After-line6)
-    → let a = c .before .before .before .before .before .before .before .before .before .before .before .before .before .before .args in
-    length (lastLine (a .ending) (a .records)) ≤ 16
+length-line : (c : tie.After-line6) → length (asked c) ≤ mostLast
 length-line c =
     let e = c .before .before .before .before .before .before .before .before .before .before .before .before .before .before in
     last-within (e .args .ending) (e .args .records) (omega (arith, e .fits))
 
 ends : (c : tie.After-line6) → c .before .put2 .result .end ≤ length (c .before .put2 .last .1 .0)
 ends c =
-    let a = c .before .before .before .before .before .before .before .before .before .before .before .before .before .before .args in
-    let n = length-laid (replicate 16 0) 0 (lastLine (a .ending) (a .records)) (omega (arith, length-line c)) in
     omega (
       arith,
       ap (λ (d : Ended). d .end) (lies c),
       ap (λ (d : Ended). length (d .out)) (lies c),
-      n,
+      length-laid (replicate mostLast 0) 0 (asked c) (omega (arith, length-line c)),
       length-line c,
     )
 
-text : (c : tie.After-line6)
-    → let a = c .before .before .before .before .before .before .before .before .before .before .before .before .before .before .args in
-    take (c .before .put2 .result .end) (c .before .put2 .last .1 .0) ≡ lastLine (a .ending) (a .records)
-text c =
-    let a = c .before .before .before .before .before .before .before .before .before .before .before .before .before .before .args in
-    ap (λ (d : Ended). take (d .end) (d .out)) (lies c)
-    ∙ rw (zero-add (length (lastLine (a .ending) (a .records)))) (take-front (replicate 16 0) (lastLine (a .ending) (a .records)))
+text : (c : tie.After-line6) → take (c .before .put2 .result .end) (c .before .put2 .last .1 .0) ≡ asked c
+text c = ap (λ (d : Ended). take (d .end) (d .out)) (lies c) ∙ take-placed (asked c) (replicate mostLast 0)
 
 array-share-prefix-line : tie.Need-array-share-prefix-line
 array-share-prefix-line c = ends c

@@ -1,25 +1,24 @@
 -- `event_line::put_heard` meets its contract: what an event carries lies within the content that came with it.
 -- Assumes nothing.
-use mathlib.Core.Path.{_≡_, refl, sym, ap, ap₂, _∙_}
+use mathlib.Core.Path.{_≡_, refl, sym, ap, _∙_}
 use mathlib.Core.Logic.{inl, inr}
 use mathlib.Core.List.{List, [], _∷_}
 use Prim.Native.Nat.{ℕ, _≤_, zero-le}
-use native.Mathlib.Nat.{add-zero, min-le-left}
 use native.Mathlib.Omega.{arith}
 use borrow.Author.Needs.{needs}
 use denote.Enum.Declared.{tagOf}
 use types.Run.{OneOf}
-use lib.ListN.{length, take, length-map, length-take}
+use lib.ListN.{length-map, length-take}
 use lib.Seq.{length-take-le}
 use Rattle.ground.specs.Laying.{placed}
-use Rattle.ground.proofs.Laws.Laying.{laid-nil}
+use Rattle.ground.proofs.Laws.Laying.{placed-nil}
 use Rattle.station.specs.declared.event.Event.{Event}
 use Rattle.station.specs.declared.event.Event.the-variants.{None, Frame, Check, Short, Long, Pair, Addr}
-use Rattle.station.specs.Events.{NONE, named}
+use Rattle.station.specs.Events.{named, happened}
 use Rattle.station.proofs.event.Event as event
 use Rattle.link.specs.Receiving.{saying}
 use Rattle.lines.specs.declared.side.Side.{Side}
-use Rattle.lines.specs.Lines.{line, eventLine, nameOf}
+use Rattle.lines.specs.Lines.{line, nameOf, eventLine, carried}
 use Rattle.lines.proofs.Laws.Lines.{no-line, frame-line, refuses-long, refuses-room, puts-heard}
 use Rattle.lines.proofs.event_line.put_heard.Statement.{statement}
 use Rattle.lines.proofs.event_line.put_heard.Tie as tie
@@ -79,7 +78,7 @@ slice-aggregate-put-line c = sym (length-take-le _ _ (array-share-prefix-content
 put-line-requires : tie.Need-put-line-requires
 put-line-requires c κs =
     let h = c .before .before .before .before .before .before .before .before .before .before .args .heard in
-    (omega (arith, length-take (h .length) (h .content), min-le-left (h .length) (length (h .content))), omega arith)
+    (omega (arith, length-take (h .length) (h .content)), omega arith)
 
 array-share-prefix-content-2 : tie.Need-array-share-prefix-content-2
 array-share-prefix-content-2 c = zero-le
@@ -96,11 +95,10 @@ same-length-2 c = search needs
 returns-3 : tie.Need-returns-3
 returns-3 c =
     let a = c .before .before .before .before .before .before .before .before .args in
-    let content = take (a .heard .length) (a .heard .content) in
-    ap₂ (λ (n : ℕ) (l : List ℕ). record { refusal = 0; end = n; out = l }) (sym (add-zero (a .at))) (sym (laid-nil (a .out .now) (a .at)))
+    let quiet = ap (λ (e : Event). happened (named e)) (c .enum-told .given .1) in
+    sym (placed-nil (a .out .now) (a .at))
     ∙ ap (λ (l : List ℕ). placed l (a .out .now) (a .at))
-    (sym (no-line (a .number) (a .side) NONE content refl)
-    ∙ ap (λ (e : Event). eventLine (a .number) (a .side) (named e) content) (sym (c .enum-told .given .1)))
+    (sym (no-line (a .number) (a .side) (saying (a .heard)) quiet))
     ∙ sym (puts-heard (a .number) (a .side) (saying (a .heard)) (a .out .now) (a .at) (omega arith) (omega arith))
 
 same-length-3 : tie.Need-same-length-3
@@ -109,7 +107,7 @@ same-length-3 c = search needs
 returns-4 : tie.Need-returns-4
 returns-4 c =
     let a = c .before .before .before .before .before .before .before .before .before .before .before .before .before .args in
-    let content = take (a .heard .length) (a .heard .content) in
+    let content = carried (saying (a .heard)) in
     let frame = c .before .before .before .before .before .enum-told2 .given .1 in
     c .before .before .put-line .ensures
     ∙ ap (λ (l : List ℕ). placed l (a .out .now) (a .at))
@@ -127,7 +125,7 @@ returns-5 c =
     let a = m .before .before .before .before .before .before .before .args in
     c .before .before .put-line2 .ensures
     ∙ ap (λ (l : List ℕ). placed l (a .out .now) (a .at))
-    (others (a .number) (a .side) (a .heard .event) (take (a .heard .length) (a .heard .content)) (m .match .keys3))
+    (others (a .number) (a .side) (a .heard .event) (carried (saying (a .heard))) (m .match .keys3))
     ∙ sym (puts-heard (a .number) (a .side) (saying (a .heard)) (a .out .now) (a .at) (omega arith) (omega arith))
 
 pub put-heard-spec : {M : Type 1} → statement M
