@@ -1,5 +1,6 @@
 -- The refusals with their numbers, and an answer that counts bytes, in these numbers. 01, Refusal numbers. Assumes nothing.
 use Prim.Native.Nat.{ℕ}
+use mathlib.Core.Path.{_≡_}
 use Rattle.ground.specs.declared.refusal.Refusal.{Refusal}
 use Rattle.ground.specs.declared.refusal.Refusal.the-variants.{None, NoRoom, TooLong, BadAddress, BadState, BadRequest, WrongId, WrongCommand, WrongLength, WrongReason}
 use Rattle.ground.specs.declared.refusal.Counted.{Counted}
@@ -20,6 +21,10 @@ number WrongReason = 9
 pub record Answer : Type 0 where
   pub refusal : ℕ
   pub count : ℕ
+
+-- 01, below the table: where a call refused, what it was given is as before
+abbrev pub Keeps : {A : Type 0} → ℕ → A → A → Type 0
+Keeps refusal before after = (refusal ≡ 0 → ⊥) → after ≡ before
 
 -- what a call's result says
 abbrev pub answered : Counted → Answer

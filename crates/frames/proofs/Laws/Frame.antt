@@ -6,6 +6,7 @@ use Prim.Native.Nat.{ℕ, _+_, _≤_, _<_}
 use native.Mathlib.Omega.{arith}
 use lib.ListN.{length, take, length-append}
 use Rattle.ground.specs.declared.refusal.Refusal.the-variants.{TooLong}
+use Rattle.ground.specs.Refusals.{Keeps}
 use Rattle.ground.specs.Laying.{laid}
 use Rattle.ground.proofs.Laws.Laying.{take-front, laid-behind}
 use Rattle.checks.specs.declared.kind.Check.{Check}
@@ -13,7 +14,7 @@ use Rattle.checks.specs.Check.{checkOf, checkLength, withCheck}
 use Rattle.checks.proofs.Laws.Check.{length-withCheck}
 use Rattle.wire.specs.Limits.{mostContent}
 use Rattle.wire.specs.Writing.{refusing, imageWritten}
-use Rattle.wire.proofs.Laws.Writing.{asked-within, asked-over}
+use Rattle.wire.proofs.Laws.Writing.{asked-within, asked-over, asked-keeps}
 use Rattle.frames.specs.Frame.{frameWritten}
 
 -- the check laid behind a front that was laid: up to the check's end, the content with its check
@@ -50,3 +51,9 @@ unfolding frameWritten
 frame-over check head «data» out over =
     asked-over (withCheck check (head ++ «data»)) out
     (omega (arith, length-withCheck check (head ++ «data»), length-append head «data»))
+
+-- a refused call leaves the buffer as before
+pub frame-keeps : (check : Check) (head «data» out : List ℕ)
+    → Keeps (frameWritten check head «data» out .answer .refusal) out (frameWritten check head «data» out .out)
+unfolding frameWritten
+frame-keeps check head «data» out = asked-keeps (withCheck check (head ++ «data»)) out

@@ -1,6 +1,6 @@
 -- Laws of laying bytes into a buffer.
 -- Assumes nothing.
-use mathlib.Core.Path.{_≡_, sym, ap, ap₂, _∙_}
+use mathlib.Core.Path.{_≡_, refl, sym, ap, ap₂, _∙_}
 use mathlib.Core.List.{List, [], _∷_, _++_, append-assoc, append-nil}
 use Prim.Native.Nat.{ℕ, _+_, _-_, _≤_, _<_, zero-le}
 use native.Mathlib.Nat.{add-zero, zero-add, add-assoc}
@@ -13,6 +13,7 @@ use lib.Dec.{ltb}
 use borrow.Rule.Slice.PartMut.{putMid, midOf}
 use Rattle.ground.specs.declared.refusal.Refusal.the-variants.{NoRoom}
 use Rattle.ground.specs.declared.laying.Placed.{Placed}
+use Rattle.ground.specs.Refusals.{Keeps}
 use Rattle.ground.specs.Laying.{laid, Ended, ended, unplaced, placed, put}
 use Rattle.ground.proofs.Laws.Choice.{cond-elim}
 
@@ -111,6 +112,13 @@ placed-is bytes out at = ap₂ (λ (k : ℕ) (l : List ℕ). record { refusal = 
 pub put-laid : (bytes out : List ℕ) (at : ℕ) {e : Ended} → e ≡ put bytes out at → length bytes ≤ length out - at
     → e .out ≡ laid out at bytes
 put-laid bytes out at says fits = ap (λ (d : Ended). d .out) (says ∙ put-placed bytes out at fits)
+
+-- bytes that are refused change nothing
+pub put-keeps : (bytes out : List ℕ) (at : ℕ) → Keeps (put bytes out at .refusal) out (put bytes out at .out)
+unfolding put
+put-keeps bytes out at =
+    cond-elim (λ (e : Ended). Keeps (e .refusal) out (e .out)) (ltb (length out - at) (length bytes)) (λ short refused. refl)
+    (λ roomy refused. absurd (refused refl))
 
 -- what was put ends within the buffer, if it began there
 pub put-within : (bytes out : List ℕ) (at : ℕ) → at ≤ length out → put bytes out at .end ≤ length out

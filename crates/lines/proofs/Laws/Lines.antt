@@ -6,9 +6,12 @@ use mathlib.Core.List.{List, []}
 use Prim.Native.Nat.{ℕ, _-_, _≤_, _<_, zero-le}
 use native.Mathlib.Omega.{arith}
 use borrow.Author.Tests.{lt-ltb, le-ltb}
+use lib.Dec.{ltb}
 use lib.ListN.{length, length-append}
 use Rattle.ground.specs.declared.refusal.Refusal.the-variants.{NoRoom, TooLong}
-use Rattle.ground.specs.Laying.{unplaced, placed}
+use Rattle.ground.specs.Refusals.{Keeps}
+use Rattle.ground.specs.Laying.{Ended, unplaced, placed}
+use Rattle.ground.proofs.Laws.Choice.{cond-elim}
 use Rattle.wire.specs.Limits.{mostContent}
 use Rattle.station.specs.Events.{Name, NONE, FRAME, CHECK, SHORT, LONG, PAIR, ADDR, happened}
 use Rattle.link.specs.Receiving.{Said}
@@ -113,3 +116,13 @@ module _ (n : ℕ) (side : Side) (said : Said) (out : List ℕ) (at : ℕ) where
       → putHeard n side said out at ≡ placed (brought n side said) out at
   unfolding putHeard
   puts-heard fits roomy = rw (le-ltb mostContent (said .length) fits, le-ltb (length out - at) leastRoom roomy)
+
+  -- a refused call leaves the buffer as before
+  pub heard-keeps : Keeps (putHeard n side said out at .refusal) out (putHeard n side said out at .out)
+  unfolding putHeard
+  heard-keeps =
+      cond-elim P (ltb mostContent (said .length)) (λ t refused. refl)
+      (λ f. cond-elim P (ltb (length out - at) leastRoom) (λ t refused. refl) (λ g refused. absurd (refused refl)))
+    where
+      P : Ended → Type 0
+      P e = Keeps (e .refusal) out (e .out)

@@ -103,7 +103,7 @@ pub hearing-byte : (stream : List ℕ) (b : ℕ) (bs : List ℕ) (before : ℕ) 
 unfolding tells
 hearing-byte stream b bs before s more good left =
     let said = received s (b ∷ []) in
-    let a = received-answers s (b ∷ []) good in
+    let a = received-answers s (b ∷ []) in
     subst (λ (k : ℕ). Hearing stream (said .receiver) (before + k) more
     → Hearing stream s before (note (before + k) (said .event) (take (said .length) (said .content)) ++ more)) (takes-one s good b)
     (subst (λ (x : Said). Hearing stream (x .receiver) (before + x .taken) more → Hearing stream s before (tells before x ++ more)) (a .1)

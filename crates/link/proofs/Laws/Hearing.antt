@@ -23,7 +23,7 @@ module _ (stream : List ℕ) where
       → ((next : ℕ) (s : Receiver) → badState s ≡ false → length stream ≤ next + fuel → Some s next) → Some s before
   some-more before fuel s good more left rest =
       let piece = drop before stream in
-      let a = received-answers s piece good in
+      let a = received-answers s piece in
       let byte : 0 < length piece = rw (length-drop before stream) (omega arith) in
       let taken : 0 < a .0 .taken = rw (ap (λ (said : Said). said .taken) (a .1)) (received-takes s piece good .some byte) in
       let stays = ap (λ (said : Said). badState (said .receiver)) (a .1) ∙ stays-good s piece good in

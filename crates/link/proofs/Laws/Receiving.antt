@@ -9,7 +9,7 @@ use lib.Dec.{ltb}
 use lib.ListN.{length, drop, getD, length-take, drop-of-length-le}
 use borrow.Author.Tests.{lt-ltb, le-ltb, ltb-false}
 use Rattle.ground.specs.declared.refusal.Refusal.the-variants.{None, BadState}
-use Rattle.ground.specs.Refusals.{number}
+use Rattle.ground.specs.Refusals.{number, Keeps}
 use Rattle.ground.proofs.Laws.Choice.{cond-elim, by-test, or-none}
 use Rattle.ground.proofs.Laws.Lists.{drop-next}
 use Rattle.checks.specs.declared.kind.Check.{Check}
@@ -69,7 +69,15 @@ module _ (s : Receiver) (piece : List ℕ) where
       (λ good. heard-elim (λ (n : ℕ) (r : Receiver) (p : List ℕ) (said : Said). said .refusal ≡ 0) (λ n r. refl) (λ n r b bs e. refl)
       (λ n r b bs said e h. h) piece 0 s)
 
--- there is a result that says what was heard
+-- a refused call leaves the receiver as before
+pub received-keeps : (s : Receiver) (piece : List ℕ) → Keeps (received s piece .refusal) s (received s piece .receiver)
+unfolding received
+received-keeps s piece =
+    by-test (λ (t : Bool). cond t (refusedState s) (heard 0 s piece) .refusal ≡ cond t (number BadState) 0
+    → Keeps (cond t (refusedState s) (heard 0 s piece) .refusal) s (cond t (refusedState s) (heard 0 s piece) .receiver)) (badState s)
+    (λ bad says refused. refl) (λ good says refused. absurd (refused says)) (refused-only s piece)
+
+-- every call has a result
 answer : Receiver → Verdict → ℕ → Heard
 answer s v taken = record { refusal = None; receiver = s; event = v .event; content = s .content; length = v .length; taken = taken }
 
@@ -81,8 +89,12 @@ heard-answers =
     (λ taken s b bs y. (answer (moved s (turnAt s b)) (outcomeAt s (turnAt s b)) (taken + 1), refl))
     (λ taken s b bs said n r. r)
 
-pub received-answers : (s : Receiver) (piece : List ℕ) → badState s ≡ false → (r : Heard) × (saying r ≡ received s piece)
-received-answers s piece good = rw (hears s piece good) (heard-answers piece 0 s)
+pub received-answers : (s : Receiver) (piece : List ℕ) → (r : Heard) × (saying r ≡ received s piece)
+unfolding received
+received-answers s piece =
+    cond-elim (λ (said : Said). (r : Heard) × (saying r ≡ said)) (badState s)
+    (λ bad. (record { refusal = BadState; receiver = s; event = silent .event; content = s .content; length = 0; taken = 0 }, refl))
+    (λ good. heard-answers piece 0 s)
 
 -- an empty piece changes nothing
 pub empty-piece : (s : Receiver) → received s [] .receiver ≡ s × received s [] .event ≡ NONE × received s [] .taken ≡ 0

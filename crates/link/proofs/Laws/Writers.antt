@@ -9,12 +9,13 @@ use lib.Dec.{ltb}
 use lib.ListN.{length}
 use borrow.Author.Tests.{ltb-true, ltb-false, lt-ltb, le-ltb}
 use Rattle.ground.specs.declared.refusal.Refusal.the-variants.{NoRoom, TooLong, BadAddress}
+use Rattle.ground.specs.Refusals.{Keeps}
 use Rattle.ground.proofs.Laws.Choice.{cond-elim}
 use Rattle.checks.specs.declared.kind.Check.the-variants.{Fcs}
 use Rattle.wire.specs.Image.{image}
 use Rattle.wire.specs.Writing.{After, refusing, putting, imageWritten}
 use Rattle.wire.proofs.Laws.Stuffing.{plain-is}
-use Rattle.wire.proofs.Laws.Writing.{written-short, written-whole}
+use Rattle.wire.proofs.Laws.Writing.{written-short, written-whole, written-keeps as image-keeps}
 use Rattle.station.specs.Address.{isNever}
 use Rattle.frames.specs.Frame.{frameWritten}
 use Rattle.frames.proofs.Laws.Frame.{frame-within, frame-over}
@@ -47,6 +48,16 @@ module _ (never : Bool) («data» content out : List ℕ) where
 
   -- ---- and only then: of the answer that was given, the row's conditions hold
 
+  -- a refused call leaves the buffer as before
+  written-keeps : Keeps (written never «data» content out .answer .refusal) out (written never «data» content out .out)
+  unfolding written
+  written-keeps =
+      cond-elim P (ltb mostData (length «data»)) (λ t refused. refl)
+      (λ f. cond-elim P never (λ t refused. refl) (λ g. image-keeps content out))
+    where
+      P : After → Type 0
+      P a = Keeps (a .answer .refusal) out (a .out)
+
   pub by-table : ByTable never «data» content out (written never «data» content out)
   unfolding written imageWritten
   by-table =
@@ -74,6 +85,10 @@ module _ (identifier command : ℕ) («data» out : List ℕ) where
   unfolding pointWritten
   point-by-table = by-table false «data» (pointContent identifier command «data») out
 
+  pub point-keeps : Keeps (pointWritten identifier command «data» out .answer .refusal) out (pointWritten identifier command «data» out .out)
+  unfolding pointWritten
+  point-keeps = written-keeps false «data» (pointContent identifier command «data») out
+
   -- a frame with this head is refused just where the data is over its limit
   pub point-framed : frameWritten Fcs (identifier ∷ command ∷ []) «data» out ≡ pointWritten identifier command «data» out
   unfolding written pointContent pointWritten
@@ -99,6 +114,11 @@ module _ (address identifier command : ℕ) («data» out : List ℕ) where
       (addressedWritten address identifier command «data» out)
   unfolding addressedWritten
   addressed-by-table = by-table (isNever address) «data» (addressedContent address identifier command «data») out
+
+  pub addressed-keeps : Keeps (addressedWritten address identifier command «data» out .answer .refusal) out
+      (addressedWritten address identifier command «data» out .out)
+  unfolding addressedWritten
+  addressed-keeps = written-keeps (isNever address) «data» (addressedContent address identifier command «data») out
 
   -- the writer writes for any address 00..FC
   pub addressed-writes : address ≤ 0xFC

@@ -10,6 +10,7 @@ use lib.Dec.{ltb}
 use lib.ListN.{length, length-append, length-take}
 use Rattle.ground.specs.declared.refusal.Refusal.{Refusal}
 use Rattle.ground.specs.declared.refusal.Refusal.the-variants.{NoRoom, BadState}
+use Rattle.ground.specs.Refusals.{Keeps}
 use Rattle.ground.proofs.Laws.Choice.{cond-elim, or-none}
 use Rattle.link.specs.declared.receiver.Receiver.{Receiver}
 use Rattle.link.specs.Receiving.{received}
@@ -50,6 +51,13 @@ listed-elim P t chunk out refused lists =
     cond-elim P (badTape t) (λ bad. refused BadState)
     (λ fine. cond-elim P (ltb (length out) leastRoom) (λ short. refused NoRoom)
     (λ roomy. lists fine (ltb-false (length out) leastRoom roomy)))
+
+-- so a refused call leaves tape and buffer as before
+pub listed-keeps : (t : Tape) (chunk out : List ℕ)
+    → Keeps (listed t chunk out .refusal) t (listed t chunk out .tape) × Keeps (listed t chunk out .refusal) out (listed t chunk out .out)
+listed-keeps t chunk out =
+    listed-elim (λ (d : Told). Keeps (d .refusal) t (d .tape) × Keeps (d .refusal) out (d .out)) t chunk out
+    (λ why. ((λ refused. refl), (λ refused. refl))) (λ fine roomy. ((λ refused. absurd (refused refl)), (λ refused. absurd (refused refl))))
 
 -- and what holds where it stands, and goes back over a byte that it takes, holds of how it goes over its chunk
 module _ (P : ℕ → Tape → List ℕ → Went → Type 0)

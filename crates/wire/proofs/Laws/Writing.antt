@@ -1,18 +1,21 @@
--- Laws of writing an image: what stands in the buffer, and what is asked before.
+-- Laws of writing an image: what stands in the buffer, what is asked before, and what a refusal leaves.
 -- Assumes nothing.
-use mathlib.Core.Path.{_≡_, _∙_}
+use mathlib.Core.Path.{_≡_, refl, _∙_}
 use mathlib.Core.List.{List, [], _∷_, _++_}
 use Prim.Native.Nat.{ℕ, _+_, _≤_, _<_}
 use native.Mathlib.Omega.{arith}
+use lib.Dec.{ltb}
 use lib.ListN.{length, drop, set, length-set}
 use borrow.Author.Tests.{lt-ltb, le-ltb}
 use Rattle.ground.specs.declared.refusal.Refusal.the-variants.{NoRoom, TooLong}
+use Rattle.ground.specs.Refusals.{Keeps}
 use Rattle.ground.specs.Laying.{laid}
+use Rattle.ground.proofs.Laws.Choice.{cond-elim}
 use Rattle.ground.proofs.Laws.Laying.{laid-next, laid-front, set-behind}
 use Rattle.wire.specs.Limits.{mostContent}
 use Rattle.wire.specs.Stuffing.{stuffing}
 use Rattle.wire.specs.Image.{start, stop, image}
-use Rattle.wire.specs.Writing.{refusing, putting, imageWritten, imageAsked}
+use Rattle.wire.specs.Writing.{After, refusing, putting, imageWritten, imageAsked}
 use Rattle.wire.proofs.Laws.Image.{length-image, imageLength-stuffing}
 
 -- start, then the stuffing in the room behind it, then stop: the image stands in front
@@ -45,3 +48,16 @@ asked-within content out within = rw (le-ltb mostContent (length content) within
 pub asked-over : (content out : List ℕ) → mostContent < length content → imageAsked content out ≡ refusing TooLong out
 unfolding imageAsked
 asked-over content out over = rw (lt-ltb mostContent (length content) over)
+
+-- a refused call leaves the buffer as before
+pub written-keeps : (content out : List ℕ) → Keeps (imageWritten content out .answer .refusal) out (imageWritten content out .out)
+unfolding imageWritten
+written-keeps content out =
+    cond-elim (λ (a : After). Keeps (a .answer .refusal) out (a .out)) (ltb (length out) (length (image content))) (λ short refused. refl)
+    (λ fits refused. absurd (refused refl))
+
+pub asked-keeps : (content out : List ℕ) → Keeps (imageAsked content out .answer .refusal) out (imageAsked content out .out)
+unfolding imageAsked
+asked-keeps content out =
+    cond-elim (λ (a : After). Keeps (a .answer .refusal) out (a .out)) (ltb mostContent (length content)) (λ over refused. refl)
+    (λ within. written-keeps content out)
