@@ -5,7 +5,7 @@ use mathlib.Core.Path.{_≡_}
 use mathlib.Core.Bool.{Bool, true, false, cond, _&&_, _||_, not}
 use mathlib.Core.List.{List}
 use lib.Dec.{ltb, leb}
-use lib.ListN.{length, getD, drop}
+use lib.ListN.{length}
 use Rattle.ground.specs.declared.refusal.Refusal.{Refusal}
 use Rattle.ground.specs.declared.refusal.Refusal.the-variants.{NoRoom, TooLong, BadState, BadRequest}
 use Rattle.ground.specs.Refusals.{number}
@@ -16,7 +16,7 @@ use Rattle.request.specs.declared.command.Acceptance.the-variants.{Accepted, Re
 use Rattle.request.specs.Limits.{mostAntenna}
 use Rattle.request.specs.Parameters.{isSpeed}
 use Rattle.request.specs.Acceptance.{acceptance, nackOf}
-use Rattle.request.specs.Replies.{NACK, sign}
+use Rattle.request.specs.Replies.{NACK, sign, identifierOf, commandOf, dataOf}
 use Rattle.reader.specs.declared.asking.Asking.{Asking}
 use Rattle.reader.specs.declared.asking.Asking.the-variants.{Nothing, Wrong, Right}
 use Rattle.reader.specs.declared.buffer.Buffer.{Buffer}
@@ -126,17 +126,15 @@ module _ (s : Reader) (header antenna store out : List ℕ) where
   recalled identifier code «data» (Stored length) = sending s Store length store out
   recalled identifier code «data» New = judged identifier code «data» (acceptance code «data»)
 
-  -- identifier, command, and the data part from the third content byte to the check
+  -- of a FRAME, by its identifier, command and data part
   unfoldable pub framed : List ℕ → Answered
   framed content =
-      let identifier = getD content 0 0 in
-      let code = getD content 1 0 in
-      recalled identifier code (drop 2 content) (find (s .memory) identifier code)
+      recalled (identifierOf content) (commandOf content) (dataOf content) (find (s .memory) (identifierOf content) (commandOf content))
 
   -- 1. no answer, an empty part of the out buffer. 2. CHECK: NACK 1, with the received identifier
   abbrev pub stepped : Asking → List ℕ → Answered
   stepped Nothing content = sending s Out 0 store out
-  stepped Wrong content = nacked s (getD content 0 0) 1 store out
+  stepped Wrong content = nacked s (identifierOf content) 1 store out
   stepped Right content = framed content
 
 -- row 5: a FRAME or CHECK whose content without check is not 2..62 bytes

@@ -7,7 +7,7 @@ use mathlib.Core.Bool.{Bool, true, false, cond, _&&_, not}
 use mathlib.Core.List.{List, [], _∷_}
 use mathlib.Core.Option.{Option, none, some, Option·map}
 use lib.Dec.{eqb}
-use lib.ListN.{length, getD, drop}
+use lib.ListN.{length, drop}
 use Rattle.ground.specs.Refusals.{number}
 use Rattle.station.specs.declared.event.Event.{Event}
 use Rattle.station.specs.Events.{named}
@@ -20,7 +20,7 @@ use Rattle.request.specs.declared.command.Acceptance.the-variants.{Accepted, Re
 use Rattle.request.specs.Limits.{headerLength}
 use Rattle.request.specs.Parameters.{parameterCode}
 use Rattle.request.specs.Acceptance.{acceptance, nackOf, isAccepted}
-use Rattle.request.specs.Replies.{Reply, NACK}
+use Rattle.request.specs.Replies.{Reply, NACK, identifierOf, commandOf, dataOf}
 use Rattle.reader.specs.declared.asking.Asking.{Asking}
 use Rattle.reader.specs.declared.asking.Asking.the-variants.{Nothing, Wrong, Right}
 use Rattle.reader.specs.declared.reader.Reader.{Reader}
@@ -83,27 +83,21 @@ valuesAfter value (Read p) «data» = value
 valuesAfter value (Card card) «data» = value
 
 module _ (h : History) (content header antenna : List ℕ) where
-  abbrev identifier : ℕ
-  identifier = getD content 0 0
-
-  abbrev code : ℕ
-  code = getD content 1 0
-
-  abbrev «data» : List ℕ
-  «data» = drop 2 content
-
   -- step 6: executed, and remembered; steps 4 and 5: not
   abbrev pub judgedNext : Acceptance → History
   judgedNext (Refused fault) = h
   judgedNext (Accepted command) =
       record {
-        value = valuesAfter (h .value) command «data»;
-        last = some (record { identifier = identifier; code = code; reply = replyTo (h .value) command header antenna });
+        value = valuesAfter (h .value) command (dataOf content);
+        last = some
+            (record { identifier = identifierOf content; code = commandOf content; reply = replyTo (h .value) command header antenna });
       }
 
   -- what is told behind a call that was not refused
   abbrev pub next : Asking → History
-  next asked = cond (isRight asked) (cond (repeats (h .last) identifier code) h (judgedNext (acceptance code «data»))) h
+  next asked =
+      cond (isRight asked)
+      (cond (repeats (h .last) (identifierOf content) (commandOf content)) h (judgedNext (acceptance (commandOf content) (dataOf content)))) h
 
   -- the reply meant: by steps 4 to 6
   abbrev pub judgedReply : Acceptance → Reply
@@ -115,26 +109,26 @@ module _ (h : History) (content header antenna : List ℕ) where
   meant Nothing = none
   meant Wrong = some (NACK 1)
   meant Right =
-      cond (repeats (h .last) identifier code) (Option·map (λ (e : Executed). e .reply) (h .last))
-      (some (judgedReply (acceptance code «data»)))
+      cond (repeats (h .last) (identifierOf content) (commandOf content)) (Option·map (λ (e : Executed). e .reply) (h .last))
+      (some (judgedReply (acceptance (commandOf content) (dataOf content))))
 
   -- its frame's whole image, with the received identifier; nothing where there is no answer
   abbrev pub bytesOf : Option Reply → List ℕ
   bytesOf none = []
-  bytesOf (some reply) = wire identifier code reply
+  bytesOf (some reply) = wire (identifierOf content) (commandOf content) reply
 
   abbrev pub toSend : Asking → List ℕ
   toSend asked = bytesOf (meant asked)
 
 -- a FRAME that repeats the last executed command
 abbrev pub isRepeat : History → List ℕ → Asking → Bool
-isRepeat h content asked = isRight asked && repeats (h .last) (getD content 0 0) (getD content 1 0)
+isRepeat h content asked = isRight asked && repeats (h .last) (identifierOf content) (commandOf content)
 
 -- a FRAME that is executed, unless the call refuses: no repeat, and accepted
 abbrev pub executes : History → List ℕ → Asking → Bool
 executes h content asked =
     isRight asked
-    && (not (repeats (h .last) (getD content 0 0) (getD content 1 0)) && isAccepted (acceptance (getD content 1 0) (drop 2 content)))
+    && (not (repeats (h .last) (identifierOf content) (commandOf content)) && isAccepted (acceptance (commandOf content) (dataOf content)))
 
 -- ---- a session
 
@@ -183,7 +177,7 @@ pub data Unwritten (alone : Bool) (p : Parameter) (s : Reader) (held : List ℕ)
       → length header ≡ headerLength
       → (number (r .refusal) ≡ 0
       → executes k content (asking (named event)) ≡ true
-      → acceptance (getD content 1 0) (drop 2 content) ≡ Accepted (Write p)
+      → acceptance (commandOf content) (dataOf content) ≡ Accepted (Write p)
       → ⊥)
       → answering r store′ out′ ≡ answered t (named event) content header antenna store out
       → Unwritten alone p s held h (r .reader) store′

@@ -5,7 +5,7 @@ use mathlib.Core.Bool.{Bool, false, true≢false}
 use mathlib.Core.List.{List, _∷_, _++_, List·Memᴰ}
 use Prim.Native.Nat.{ℕ, _+_, _≤_}
 use native.Mathlib.Omega.{arith}
-use lib.ListN.{length, getD, drop, replicate}
+use lib.ListN.{length, drop, replicate}
 use lib.Seq.{take-at}
 use Rattle.ground.specs.declared.refusal.Counted.{Counted}
 use Rattle.ground.specs.declared.refusal.Refusal.the-variants.{None}
@@ -24,7 +24,7 @@ use Rattle.request.specs.declared.command.Acceptance.the-variants.{Accepted}
 use Rattle.request.specs.declared.command.Fault.{Fault}
 use Rattle.request.specs.Limits.{mostAntenna, headerLength}
 use Rattle.request.specs.Acceptance.{acceptance, nackOf}
-use Rattle.request.specs.Replies.{Reply, NACK, sign, commandIn, dataIn, frontOf}
+use Rattle.request.specs.Replies.{Reply, NACK, sign, commandIn, dataIn, frontOf, identifierOf, commandOf, dataOf}
 use Rattle.request.proofs.Laws.Acceptance.{accepts}
 use Rattle.reader.specs.declared.reader.Reader.{Reader}
 use Rattle.reader.specs.declared.reader.Answer.{Answer}
@@ -124,7 +124,7 @@ pub check-nacked : {alone : Bool} {s : Reader} {held store′ out′ : List ℕ}
     → length header ≡ headerLength
     → answering r store′ out′ ≡ answered s CHECK content header antenna store out
     → number (r .refusal) ≡ 0
-    → sent (r .buffer) (r .length) store′ out′ ≡ wire (getD content 0 0) sign (NACK 1)
+    → sent (r .buffer) (r .length) store′ out′ ≡ wire (identifierOf content) sign (NACK 1)
 check-nacked se r content header antenna store out kept whole says done =
     session-sends se r Check content header antenna store out kept whole says done (λ again. absurd (true≢false (sym again)))
 
@@ -134,9 +134,9 @@ pub frame-nacked : {alone : Bool} {s : Reader} {held store′ out′ : List ℕ}
     → length header ≡ headerLength
     → answering r store′ out′ ≡ answered s FRAME content header antenna store out
     → number (r .refusal) ≡ 0
-    → repeats (h .last) (getD content 0 0) (getD content 1 0) ≡ false
-    → acceptance (getD content 1 0) (drop 2 content) ≡ Acceptance.Refused fault
-    → sent (r .buffer) (r .length) store′ out′ ≡ wire (getD content 0 0) sign (NACK (nackOf fault))
+    → repeats (h .last) (identifierOf content) (commandOf content) ≡ false
+    → acceptance (commandOf content) (dataOf content) ≡ Acceptance.Refused fault
+    → sent (r .buffer) (r .length) store′ out′ ≡ wire (identifierOf content) sign (NACK (nackOf fault))
 frame-nacked se r content header antenna store out kept whole says done new asked =
     session-sends se r Frame content header antenna store out kept whole says done (λ again. absurd (true≢false (sym again ∙ new)))
     ∙ rw (new, asked)

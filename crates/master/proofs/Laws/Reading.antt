@@ -6,7 +6,7 @@ use mathlib.Core.List.{List, _∷_}
 use Prim.Native.Nat.{ℕ}
 use native.Mathlib.Omega.{arith}
 use lib.Dec.{eqb}
-use lib.ListN.{length, getD}
+use lib.ListN.{length}
 use borrow.Author.Tests.{eqb-false, eq-eqb, ne-eqb}
 use Rattle.ground.specs.declared.refusal.Refusal.the-variants.{BadRequest, WrongId, WrongCommand}
 use Rattle.ground.proofs.Laws.Choice.{cond-elim}
@@ -14,8 +14,8 @@ use Rattle.request.specs.declared.command.Command.{Command}
 use Rattle.request.specs.declared.command.Acceptance.{Acceptance}
 use Rattle.request.specs.declared.command.Acceptance.the-variants.{Accepted, Refused}
 use Rattle.request.specs.Acceptance.{acceptance, isAccepted}
-use Rattle.request.specs.Replies.{sign}
-use Rattle.master.specs.Reading.{replyData, Outcome, refusing, isDue, wrongId, isSign, wrongCommand, signRead, dataRead, readAs, readBy, replyRead, Heeded, Signed, reason, isWrite, isNack, reasonRead, ByTable, request, identity, otherCommand, signLength, dataLength, ackDue, noReason, ack, nack, bytes}
+use Rattle.request.specs.Replies.{sign, identifierOf, commandOf, dataOf}
+use Rattle.master.specs.Reading.{Outcome, refusing, isDue, wrongId, isSign, wrongCommand, signRead, dataRead, readAs, readBy, replyRead, Heeded, Signed, reason, isWrite, isNack, reasonRead, ByTable, request, identity, otherCommand, signLength, dataLength, ackDue, noReason, ack, nack, bytes}
 
 module _ (identifier code : ℕ) (reply : List ℕ) (asks : Command) where
   -- row 6
@@ -23,61 +23,61 @@ module _ (identifier code : ℕ) (reply : List ℕ) (asks : Command) where
   unfolding readAs
   refuses-empty none = simp none
 
-  pub refuses-identifier : (length reply ≡ 0 → ⊥) → (getD reply 0 0 ≡ identifier → ⊥) → readAs identifier code reply asks ≡ refusing WrongId
+  pub refuses-identifier : (length reply ≡ 0 → ⊥) → (identifierOf reply ≡ identifier → ⊥) → readAs identifier code reply asks ≡ refusing WrongId
   unfolding readAs
-  refuses-identifier some other = simp (ne-eqb (length reply) 0 some, ne-eqb (getD reply 0 0) identifier other)
+  refuses-identifier some other = simp (ne-eqb (length reply) 0 some, ne-eqb (identifierOf reply) identifier other)
 
-  module _ (some : length reply ≡ 0 → ⊥) (own : getD reply 0 0 ≡ identifier) where
+  module _ (some : length reply ≡ 0 → ⊥) (own : identifierOf reply ≡ identifier) where
     -- row 7
     pub refuses-absent : length reply ≡ 1 → readAs identifier code reply asks ≡ refusing WrongCommand
     unfolding readAs
-    refuses-absent one = simp (eq-eqb (getD reply 0 0) identifier own, one)
+    refuses-absent one = simp (eq-eqb (identifierOf reply) identifier own, one)
 
     module _ (more : length reply ≡ 1 → ⊥) where
-      pub reads-sign : getD reply 1 0 ≡ sign → readAs identifier code reply asks ≡ signRead asks (replyData reply)
+      pub reads-sign : commandOf reply ≡ sign → readAs identifier code reply asks ≡ signRead asks (dataOf reply)
       unfolding readAs
       reads-sign mark =
           simp (
             ne-eqb (length reply) 0 some,
-            eq-eqb (getD reply 0 0) identifier own,
+            eq-eqb (identifierOf reply) identifier own,
             ne-eqb (length reply) 1 more,
             eq-eqb
-                (getD reply 1 0) sign mark,
+                (commandOf reply) sign mark,
           )
 
-      module _ (plain : getD reply 1 0 ≡ sign → ⊥) where
-        pub refuses-command : (getD reply 1 0 ≡ code → ⊥) → readAs identifier code reply asks ≡ refusing WrongCommand
+      module _ (plain : commandOf reply ≡ sign → ⊥) where
+        pub refuses-command : (commandOf reply ≡ code → ⊥) → readAs identifier code reply asks ≡ refusing WrongCommand
         unfolding readAs
         refuses-command other =
             simp (
               ne-eqb (length reply) 0 some,
-              eq-eqb (getD reply 0 0) identifier own,
+              eq-eqb (identifierOf reply) identifier own,
               ne-eqb (length reply) 1 more,
-              ne-eqb (getD reply 1 0) sign plain,
-              ne-eqb (getD reply 1 0) code other,
+              ne-eqb (commandOf reply) sign plain,
+              ne-eqb (commandOf reply) code other,
             )
 
-        pub refuses-echo : getD reply 1 0 ≡ code → code ≡ 0x01 → readAs identifier code reply asks ≡ refusing WrongCommand
+        pub refuses-echo : commandOf reply ≡ code → code ≡ 0x01 → readAs identifier code reply asks ≡ refusing WrongCommand
         unfolding readAs
         refuses-echo same write =
             simp (
               ne-eqb (length reply) 0 some,
-              eq-eqb (getD reply 0 0) identifier own,
+              eq-eqb (identifierOf reply) identifier own,
               ne-eqb (length reply) 1 more,
-              ne-eqb (getD reply 1 0) sign plain,
-              eq-eqb (getD reply 1 0) code same,
+              ne-eqb (commandOf reply) sign plain,
+              eq-eqb (commandOf reply) code same,
               eq-eqb code 0x01 write,
             )
 
-        pub reads-data : getD reply 1 0 ≡ code → (code ≡ 0x01 → ⊥) → readAs identifier code reply asks ≡ dataRead asks (replyData reply)
+        pub reads-data : commandOf reply ≡ code → (code ≡ 0x01 → ⊥) → readAs identifier code reply asks ≡ dataRead asks (dataOf reply)
         unfolding readAs
         reads-data same other =
             simp (
               ne-eqb (length reply) 0 some,
-              eq-eqb (getD reply 0 0) identifier own,
+              eq-eqb (identifierOf reply) identifier own,
               ne-eqb (length reply) 1 more,
-              ne-eqb (getD reply 1 0) sign plain,
-              eq-eqb (getD reply 1 0) code same,
+              ne-eqb (commandOf reply) sign plain,
+              eq-eqb (commandOf reply) code same,
               ne-eqb code 0x01 other,
             )
 
@@ -110,12 +110,12 @@ module _ (identifier code : ℕ) («data» reply : List ℕ) where
           (λ own. cond-elim P (wrongCommand code reply) (otherCommand asked own)
           (λ right. let heeded : Heeded identifier code «data» reply c = (asked, own, right) in
           cond-elim P (isSign reply)
-          (λ mark. cond-elim P (eqb (length (replyData reply)) 1)
+          (λ mark. cond-elim P (eqb (length (dataOf reply)) 1)
           (λ one. let signed : Signed identifier code «data» reply c = (heeded, (mark, one)) in
           cond-elim P (eqb (reason reply) 0x55) (λ is. cond-elim P (isWrite c) (ack signed is) (ackDue signed is))
           (λ not. cond-elim P (isNack (reason reply)) (nack signed not) (noReason signed not)))
           (signLength heeded mark))
-          (λ plain. cond-elim P (isDue c (length (replyData reply))) (bytes heeded plain) (dataLength heeded plain))))
+          (λ plain. cond-elim P (isDue c (length (dataOf reply))) (bytes heeded plain) (dataLength heeded plain))))
 
   pub table-only : {o : Outcome} → ByTable identifier code «data» reply o → o ≡ replyRead identifier code «data» reply
   unfolding replyRead readAs signRead reasonRead dataRead

@@ -7,7 +7,7 @@ use mathlib.Core.Option.{Option, none, some, Option·map}
 use Prim.Native.Nat.{ℕ, _≤_}
 use native.Mathlib.Omega.{arith}
 use lib.Dec.{eqb}
-use lib.ListN.{length, getD, take, drop}
+use lib.ListN.{length, take, drop}
 use lib.Seq.{take-at}
 use borrow.Author.Tests.{eqb-true, le-ltb}
 use Rattle.ground.proofs.Laws.Choice.{by-test}
@@ -20,7 +20,7 @@ use Rattle.request.specs.declared.command.Acceptance.the-variants.{Accepted, Re
 use Rattle.request.specs.Limits.{headerLength}
 use Rattle.request.specs.Parameters.{lengthOf, isSpeed}
 use Rattle.request.specs.Acceptance.{acceptance, nackOf, Carries}
-use Rattle.request.specs.Replies.{NACK, sign, dataIn}
+use Rattle.request.specs.Replies.{NACK, sign, dataIn, identifierOf, commandOf, dataOf}
 use Rattle.request.proofs.Laws.Acceptance.{accepts, carries}
 use Rattle.reader.specs.declared.asking.Asking.{Asking}
 use Rattle.reader.specs.declared.asking.Asking.the-variants.{Nothing, Wrong, Right}
@@ -122,27 +122,27 @@ module _ (s : Reader) (header antenna store out content : List ℕ) where
 
   abbrev pub judgedAs : Answered
   judgedAs =
-      judged s header antenna store out (getD content 0 0) (getD content 1 0) (drop 2 content)
-      (acceptance (getD content 1 0) (drop 2 content))
+      judged s header antenna store out (identifierOf content) (commandOf content) (dataOf content)
+      (acceptance (commandOf content) (dataOf content))
 
   pub framed-told : (last : Option Executed) → s .memory ≡ memoryOf last
-      → framed s header antenna store out content ≡ cond (repeats last (getD content 0 0) (getD content 1 0)) (recalledAs last) judgedAs
+      → framed s header antenna store out content ≡ cond (repeats last (identifierOf content) (commandOf content)) (recalledAs last) judgedAs
   framed-told last remembered =
-      framed-by s header antenna store out content (find (memoryOf last) (getD content 0 0) (getD content 1 0))
-      (ap (λ (m : Memory). find m (getD content 0 0) (getD content 1 0)) remembered)
+      framed-by s header antenna store out content (find (memoryOf last) (identifierOf content) (commandOf content))
+      (ap (λ (m : Memory). find m (identifierOf content) (commandOf content)) remembered)
       ∙ of last
     where
       of : (l : Option Executed)
-          → recalled s header antenna store out (getD content 0 0) (getD content 1 0) (drop 2 content)
-          (find (memoryOf l) (getD content 0 0) (getD content 1 0))
-          ≡ cond (repeats l (getD content 0 0) (getD content 1 0)) (recalledAs l) judgedAs
+          → recalled s header antenna store out (identifierOf content) (commandOf content) (dataOf content)
+          (find (memoryOf l) (identifierOf content) (commandOf content))
+          ≡ cond (repeats l (identifierOf content) (commandOf content)) (recalledAs l) judgedAs
       of none = refl
       of (some e) =
           by-test
-          (λ (t : Bool). recalled s header antenna store out (getD content 0 0) (getD content 1 0) (drop 2 content)
+          (λ (t : Bool). recalled s header antenna store out (identifierOf content) (commandOf content) (dataOf content)
           (cond t (Stored (length (wireOf e))) New)
           ≡ cond t (recalledAs (some e)) judgedAs)
-          (repeats (some e) (getD content 0 0) (getD content 1 0)) (λ _. refl) (λ _. refl)
+          (repeats (some e) (identifierOf content) (commandOf content)) (λ _. refl) (λ _. refl)
 
 -- ---- one call that is not refused: the record agrees with what is told next, and what is sent is meant
 
@@ -161,58 +161,50 @@ module _ (alone : Bool) (s : Reader) (header antenna store out : List ℕ) (whol
   told-nack identifier n a = record { none = refl; agrees = a; sends = λ _. sent-out (wire identifier sign (NACK n)) store out }
 
   module _ (content : List ℕ) (last : Option Executed) where
-    abbrev identifier : ℕ
-    identifier = getD content 0 0
-
-    abbrev code : ℕ
-    code = getD content 1 0
-
-    abbrev «data» : List ℕ
-    «data» = drop 2 content
-
     abbrev known : (Parameter → List ℕ) → History
     known value = record { value = value; last = last }
 
     -- steps 4 to 6
-    told-executed : (command : Command) → Carries command «data» → Agrees alone s store (known (valueOf (s .parameters)))
+    told-executed : (command : Command) → Carries command (dataOf content) → Agrees alone s store (known (valueOf (s .parameters)))
         → Told alone (judgedNext (known (valueOf (s .parameters))) content header antenna (Accepted command))
-        (wire identifier code (replyTo (valueOf (s .parameters)) command header antenna)) false
-        (executed s header antenna store out identifier code «data» command)
+        (wire (identifierOf content) (commandOf content) (replyTo (valueOf (s .parameters)) command header antenna)) false
+        (executed s header antenna store out (identifierOf content) (commandOf content) (dataOf content) command)
     told-executed command carried a =
         let value = valueOf (s .parameters) in
         let reply = replyTo value command header antenna in
-        let e : Executed = record { identifier = identifier; code = code; reply = reply } in
+        let e : Executed = record { identifier = identifierOf content; code = commandOf content; reply = reply } in
         record {
           none = refl;
           agrees = record {
-            values = done-values (s .parameters) «data» command carried;
-            sized = done-sized value (a .sized) «data» command carried;
-            speed = done-speed (s .parameters) «data» command carried (a .speed);
+            values = done-values (s .parameters) (dataOf content) command carried;
+            sized = done-sized value (a .sized) (dataOf content) command carried;
+            speed = done-speed (s .parameters) (dataOf content) command carried (a .speed);
             memory = refl;
             fits = reply-fits value (a .sized) header antenna command whole (lent .0);
             stored = stored-onto alone e store;
           };
-          sends = λ _. sent-out (wire identifier code reply) (onto (wire identifier code reply) store) out;
+          sends = λ _. sent-out (wireOf e) (onto (wireOf e) store) out;
         }
 
-    told-judged : (k : Acceptance) → acceptance code «data» ≡ k → Agrees alone s store (known (valueOf (s .parameters)))
+    told-judged : (k : Acceptance) → acceptance (commandOf content) (dataOf content) ≡ k
+        → Agrees alone s store (known (valueOf (s .parameters)))
         → Told alone (judgedNext (known (valueOf (s .parameters))) content header antenna k)
-        (wire identifier code (judgedReply (known (valueOf (s .parameters))) content header antenna k)) false
-        (judged s header antenna store out identifier code «data» k)
-    told-judged (Refused fault) asked a = told-nack identifier (nackOf fault) a
-    told-judged (Accepted command) asked a = told-executed command (carries (accepts code «data» asked)) a
+        (wire (identifierOf content) (commandOf content) (judgedReply (known (valueOf (s .parameters))) content header antenna k)) false
+        (judged s header antenna store out (identifierOf content) (commandOf content) (dataOf content) k)
+    told-judged (Refused fault) asked a = told-nack (identifierOf content) (nackOf fault) a
+    told-judged (Accepted command) asked a = told-executed command (carries (accepts (commandOf content) (dataOf content) asked)) a
 
   told-recalled : (content : List ℕ) (value : Parameter → List ℕ) (last : Option Executed)
-      → repeats last (getD content 0 0) (getD content 1 0) ≡ true
+      → repeats last (identifierOf content) (commandOf content) ≡ true
       → Agrees alone s store (record { value = value; last = last })
       → Told alone (record { value = value; last = last })
       (bytesOf (record { value = value; last = last }) content header antenna (Option·map (λ (e : Executed). e .reply) last)) true
       (recalledAs s header antenna store out content last)
   told-recalled content value none same a = absurd (true≢false (sym same))
   told-recalled content value (some e) same a =
-      let (i, k) = and-eq-true-iff (eqb (e .identifier) (getD content 0 0)) (eqb (e .code) (getD content 1 0)) .0 same in
-      let own = eqb-true (e .identifier) (getD content 0 0) i in
-      let asked = eqb-true (e .code) (getD content 1 0) k in
+      let (i, k) = and-eq-true-iff (eqb (e .identifier) (identifierOf content)) (eqb (e .code) (commandOf content)) .0 same in
+      let own = eqb-true (e .identifier) (identifierOf content) i in
+      let asked = eqb-true (e .code) (commandOf content) k in
       let within : length (wireOf e) ≤ length store = omega (arith, wire-room e (a .fits), lent .1) in
       record {
         none = refl;
@@ -220,7 +212,7 @@ module _ (alone : Bool) (s : Reader) (header antenna store out : List ℕ) (whol
         sends = λ single. sent-store (length (wireOf e)) store out within
             ∙ in-store (single refl) (a .stored)
             ∙ ap (λ (n : ℕ). wire n (e .code) (e .reply)) own
-            ∙ ap (λ (n : ℕ). wire (getD content 0 0) n (e .reply)) asked;
+            ∙ ap (λ (n : ℕ). wire (identifierOf content) n (e .reply)) asked;
       }
     where
       in-store : alone ≡ true → InStore alone store (some e) → take (length (wireOf e)) store ≡ wireOf e
@@ -230,8 +222,8 @@ module _ (alone : Bool) (s : Reader) (header antenna store out : List ℕ) (whol
       → Told alone (next h content header antenna Right) (toSend h content header antenna Right) (isRepeat h content Right)
       (framed s header antenna store out content)
   told-frame content h a =
-      let again = repeats (h .last) (getD content 0 0) (getD content 1 0) in
-      let k = acceptance (getD content 1 0) (drop 2 content) in
+      let again = repeats (h .last) (identifierOf content) (commandOf content) in
+      let k = acceptance (commandOf content) (dataOf content) in
       subst⁻¹ (Told alone (next h content header antenna Right) (toSend h content header antenna Right) again)
       (framed-told s header antenna store out content (h .last) (a .memory))
       (by-test
@@ -239,7 +231,7 @@ module _ (alone : Bool) (s : Reader) (header antenna store out : List ℕ) (whol
       (bytesOf h content header antenna (cond t (Option·map (λ (e : Executed). e .reply) (h .last))
       (some (judgedReply h content header antenna k)))) t
       (cond t (recalledAs s header antenna store out content (h .last))
-      (judged s header antenna store out (getD content 0 0) (getD content 1 0) (drop 2 content) k)))
+      (judged s header antenna store out (identifierOf content) (commandOf content) (dataOf content) k)))
       again
       (λ same. told-recalled content (h .value) (h .last) same a)
       (λ _. subst P (a .values) (told-judged content (h .last) k refl
@@ -248,15 +240,15 @@ module _ (alone : Bool) (s : Reader) (header antenna store out : List ℕ) (whol
       P : (Parameter → List ℕ) → Type 0
       P v =
           let h′ : History = record { value = v; last = h .last } in
-          let k = acceptance (getD content 1 0) (drop 2 content) in
+          let k = acceptance (commandOf content) (dataOf content) in
           Told alone (judgedNext h′ content header antenna k)
-          (wire (getD content 0 0) (getD content 1 0) (judgedReply h′ content header antenna k)) false
-          (judged s header antenna store out (getD content 0 0) (getD content 1 0) (drop 2 content) k)
+          (wire (identifierOf content) (commandOf content) (judgedReply h′ content header antenna k)) false
+          (judged s header antenna store out (identifierOf content) (commandOf content) (dataOf content) k)
 
   -- each step
   pub told-step : (asked : Asking) (content : List ℕ) (h : History) → Agrees alone s store h
       → Told alone (next h content header antenna asked) (toSend h content header antenna asked) (isRepeat h content asked)
       (stepped s header antenna store out asked content)
   told-step Nothing content h a = told-none a
-  told-step Wrong content h a = told-nack (getD content 0 0) 1 a
+  told-step Wrong content h a = told-nack (identifierOf content) 1 a
   told-step Right content h a = told-frame content h a

@@ -6,13 +6,14 @@ use mathlib.Core.List.{List, _∷_}
 use Prim.Native.Nat.{ℕ, _≤_, _<_}
 use native.Mathlib.Omega.{arith}
 use lib.Dec.{ltb}
-use lib.ListN.{length, getD, drop}
+use lib.ListN.{length}
 use borrow.Author.Tests.{ltb-true, ltb-false, lt-ltb, le-ltb, le-leb}
 use Rattle.ground.specs.declared.refusal.Refusal.the-variants.{NoRoom, TooLong, BadState, BadRequest}
 use Rattle.ground.proofs.Laws.Choice.{cond-elim, or-none, by-test}
 use Rattle.station.specs.Events.{Name}
 use Rattle.link.specs.Limits.{mostData}
 use Rattle.request.specs.Limits.{mostAntenna}
+use Rattle.request.specs.Replies.{identifierOf, commandOf, dataOf}
 use Rattle.reader.specs.declared.memory.Memory.the-variants as Memory
 use Rattle.reader.specs.declared.memory.Repeat.{Repeat}
 use Rattle.reader.specs.declared.reader.Reader.{Reader}
@@ -28,19 +29,11 @@ powers-on s good = rw good
 
 -- steps 3 to 6, by what the memory says
 module _ (s : Reader) (header antenna store out content : List ℕ) where
-  abbrev identifier : ℕ
-  identifier = getD content 0 0
-
-  abbrev code : ℕ
-  code = getD content 1 0
-
-  abbrev «data» : List ℕ
-  «data» = drop 2 content
-
-  pub framed-by : (k : Repeat) → find (s .memory) identifier code ≡ k
-      → framed s header antenna store out content ≡ recalled s header antenna store out identifier code «data» k
+  pub framed-by : (k : Repeat) → find (s .memory) (identifierOf content) (commandOf content) ≡ k
+      → framed s header antenna store out content
+      ≡ recalled s header antenna store out (identifierOf content) (commandOf content) (dataOf content) k
   unfolding framed
-  framed-by k found = ap (recalled s header antenna store out identifier code «data») found
+  framed-by k found = ap (recalled s header antenna store out (identifierOf content) (commandOf content) (dataOf content)) found
 
 -- an identifier, a command and data within the limit are a content that is not refused
 pub front-is : (identifier code : ℕ) («data» : List ℕ) → length «data» ≤ mostData → isFront (identifier ∷ code ∷ «data») ≡ true

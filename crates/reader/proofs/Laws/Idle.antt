@@ -5,7 +5,7 @@ use mathlib.Core.Bool.{Bool, true, false, cond, not, _&&_, true≢false}
 use mathlib.Core.List.{List}
 use mathlib.Core.Option.{Option, none, some}
 use lib.Dec.{eqb}
-use lib.ListN.{length, getD, drop}
+use lib.ListN.{length}
 use borrow.Author.Tests.{eqb-true}
 use Prim.Native.Nat.{ℕ}
 use Rattle.ground.specs.Refusals.{number}
@@ -15,6 +15,7 @@ use Rattle.request.specs.declared.command.Acceptance.{Acceptance}
 use Rattle.request.specs.declared.command.Acceptance.the-variants.{Accepted, Refused}
 use Rattle.request.specs.Limits.{headerLength}
 use Rattle.request.specs.Acceptance.{acceptance, isAccepted}
+use Rattle.request.specs.Replies.{identifierOf, commandOf, dataOf}
 use Rattle.reader.specs.declared.asking.Asking.{Asking}
 use Rattle.reader.specs.declared.asking.Asking.the-variants.{Nothing, Wrong, Right}
 use Rattle.reader.specs.declared.reader.Reader.{Reader}
@@ -37,10 +38,10 @@ executes-nothing h content header antenna Nothing idle = refl
 executes-nothing h content header antenna Wrong idle = refl
 executes-nothing h content header antenna Right idle =
     by-test (λ (t : Bool). (not t && isAccepted k) ≡ false → cond t h (judgedNext h content header antenna k) ≡ h)
-    (repeats (h .last) (getD content 0 0) (getD content 1 0)) (λ _ _. refl) (λ _ n. judged-nothing h content header antenna k n) idle
+    (repeats (h .last) (identifierOf content) (commandOf content)) (λ _ _. refl) (λ _ n. judged-nothing h content header antenna k n) idle
   where
     k : Acceptance
-    k = acceptance (getD content 1 0) (drop 2 content)
+    k = acceptance (commandOf content) (dataOf content)
 
 -- change neither the record nor the store
 record Unchanged (s : Reader) (store : List ℕ) (a : Answered) : Type 0 where
@@ -49,7 +50,7 @@ record Unchanged (s : Reader) (store : List ℕ) (a : Answered) : Type 0 where
 
 module _ (s : Reader) (header antenna store out content : List ℕ) where
   judged-keeps : (k : Acceptance) → isAccepted k ≡ false
-      → Unchanged s store (judged s header antenna store out (getD content 0 0) (getD content 1 0) (drop 2 content) k)
+      → Unchanged s store (judged s header antenna store out (identifierOf content) (commandOf content) (dataOf content) k)
   judged-keeps (Refused fault) idle = record { reader = refl; kept = refl }
   judged-keeps (Accepted command) idle = absurd (true≢false idle)
 
@@ -66,10 +67,10 @@ module _ (s : Reader) (header antenna store out content : List ℕ) where
       (by-test
       (λ (t : Bool). (not t && isAccepted k) ≡ false
       → Unchanged s store (cond t (recalledAs s header antenna store out content (h .last)) (judgedAs s header antenna store out content)))
-      (repeats (h .last) (getD content 0 0) (getD content 1 0)) (λ _ _. recalled-keeps (h .last)) (λ _ n. judged-keeps k n) idle)
+      (repeats (h .last) (identifierOf content) (commandOf content)) (λ _ _. recalled-keeps (h .last)) (λ _ n. judged-keeps k n) idle)
     where
       k : Acceptance
-      k = acceptance (getD content 1 0) (drop 2 content)
+      k = acceptance (commandOf content) (dataOf content)
 
   row-keeps : {a : Answered} (alone : Bool) (event : Name) (h : History) → Agrees alone s store h → length header ≡ headerLength
       → (a .refusal ≡ 0 → executes h content (asking event) ≡ false)

@@ -5,7 +5,7 @@ use mathlib.Core.Bool.{Bool, true, false, cond, true≢false}
 use mathlib.Core.List.{List}
 use Prim.Native.Nat.{ℕ}
 use lib.Dec.{eqb}
-use lib.ListN.{length, getD, drop}
+use lib.ListN.{length, drop}
 use borrow.Author.Tests.{eqb-true, eq-eqb}
 use Rattle.ground.specs.Refusals.{number}
 use Rattle.ground.proofs.Laws.Choice.{cond-elim, by-test}
@@ -20,7 +20,7 @@ use Rattle.request.specs.declared.command.Acceptance.the-variants.{Accepted, Re
 use Rattle.request.specs.Limits.{headerLength}
 use Rattle.request.specs.Parameters.{parameterCode}
 use Rattle.request.specs.Acceptance.{acceptance}
-use Rattle.request.specs.Replies.{DATA}
+use Rattle.request.specs.Replies.{DATA, identifierOf, commandOf, dataOf}
 use Rattle.request.proofs.Laws.Parameters.{same-code}
 use Rattle.reader.specs.declared.asking.Asking.{Asking}
 use Rattle.reader.specs.declared.asking.Asking.the-variants.{Nothing, Wrong, Right}
@@ -36,18 +36,18 @@ use Rattle.reader.proofs.Laws.Idle.{executes-nothing}
 
 -- a write that is executed: its value stands behind the parameter's code
 pub write-told : {p : Parameter} (h : History) (content header antenna : List ℕ)
-    → repeats (h .last) (getD content 0 0) (getD content 1 0) ≡ false
-    → acceptance (getD content 1 0) (drop 2 content) ≡ Accepted (Write p)
-    → next h content header antenna Right .value p ≡ drop 1 (drop 2 content)
+    → repeats (h .last) (identifierOf content) (commandOf content) ≡ false
+    → acceptance (commandOf content) (dataOf content) ≡ Accepted (Write p)
+    → next h content header antenna Right .value p ≡ drop 1 (dataOf content)
 write-told {p} h content header antenna new asked = rw (new, asked, eq-eqb (parameterCode p) (parameterCode p) refl)
 
 -- every other call keeps it
 module _ (p : Parameter) (h : History) (content header antenna : List ℕ) where
   values-kept : (command : Command) → (Accepted command ≡ Accepted (Write p) → ⊥)
-      → valuesAfter (h .value) command (drop 2 content) p ≡ h .value p
+      → valuesAfter (h .value) command (dataOf content) p ≡ h .value p
   values-kept Command.Header not = refl
   values-kept (Write q) not =
-      by-test (λ (t : Bool). eqb (parameterCode q) (parameterCode p) ≡ t → cond t (drop 1 (drop 2 content)) (h .value p) ≡ h .value p)
+      by-test (λ (t : Bool). eqb (parameterCode q) (parameterCode p) ≡ t → cond t (drop 1 (dataOf content)) (h .value p) ≡ h .value p)
       (eqb (parameterCode q) (parameterCode p))
       (λ _ e. absurd (not (ap (λ (r : Parameter). Accepted (Write r)) (same-code q p e)))) (λ _ _. refl) refl
   values-kept (Read q) not = refl
@@ -57,19 +57,19 @@ module _ (p : Parameter) (h : History) (content header antenna : List ℕ) where
   judged-kept (Refused fault) not = refl
   judged-kept (Accepted command) not = values-kept command not
 
-  pub value-kept : (asked : Asking) → (acceptance (getD content 1 0) (drop 2 content) ≡ Accepted (Write p) → ⊥)
+  pub value-kept : (asked : Asking) → (acceptance (commandOf content) (dataOf content) ≡ Accepted (Write p) → ⊥)
       → next h content header antenna asked .value p ≡ h .value p
   value-kept Nothing not = refl
   value-kept Wrong not = refl
   value-kept Right not =
-      by-test (λ (t : Bool). cond t h (judgedNext h content header antenna (acceptance (getD content 1 0) (drop 2 content))) .value p
+      by-test (λ (t : Bool). cond t h (judgedNext h content header antenna (acceptance (commandOf content) (dataOf content))) .value p
       ≡ h .value p)
-      (repeats (h .last) (getD content 0 0) (getD content 1 0)) (λ _. refl)
-      (λ _. judged-kept (acceptance (getD content 1 0) (drop 2 content)) not)
+      (repeats (h .last) (identifierOf content) (commandOf content)) (λ _. refl)
+      (λ _. judged-kept (acceptance (commandOf content) (dataOf content)) not)
 
 -- so does every call that executes no write of it
 call-kept : (p : Parameter) (h : History) (content header antenna : List ℕ) (asked : Asking)
-    → (executes h content asked ≡ true → acceptance (getD content 1 0) (drop 2 content) ≡ Accepted (Write p) → ⊥)
+    → (executes h content asked ≡ true → acceptance (commandOf content) (dataOf content) ≡ Accepted (Write p) → ⊥)
     → next h content header antenna asked .value p ≡ h .value p
 call-kept p h content header antenna asked idle =
     by-test (λ (t : Bool). executes h content asked ≡ t → next h content header antenna asked .value p ≡ h .value p)
@@ -105,9 +105,9 @@ pub read-answers : {alone : Bool} {s : Reader} {held : List ℕ} {h : History} {
     → length header ≡ headerLength
     → answering r store′ out′ ≡ answered s FRAME content header antenna store out
     → number (r .refusal) ≡ 0
-    → repeats (h .last) (getD content 0 0) (getD content 1 0) ≡ false
-    → acceptance (getD content 1 0) (drop 2 content) ≡ Accepted (Read p)
-    → sent (r .buffer) (r .length) store′ out′ ≡ wire (getD content 0 0) (getD content 1 0) (DATA (h .value p))
+    → repeats (h .last) (identifierOf content) (commandOf content) ≡ false
+    → acceptance (commandOf content) (dataOf content) ≡ Accepted (Read p)
+    → sent (r .buffer) (r .length) store′ out′ ≡ wire (identifierOf content) (commandOf content) (DATA (h .value p))
 unfolding replyTo
 read-answers se r content header antenna store out kept whole says done new asked =
     session-sends se r Frame content header antenna store out kept whole says done (λ again. absurd (true≢false (sym again ∙ new)))
@@ -121,21 +121,21 @@ pub written-read : {alone : Bool} {s t : Reader} {held store₁ out₁ kept stor
     → length header ≡ headerLength
     → answering r store₁ out₁ ≡ answered s FRAME content header antenna store out
     → number (r .refusal) ≡ 0
-    → repeats (h .last) (getD content 0 0) (getD content 1 0) ≡ false
-    → acceptance (getD content 1 0) (drop 2 content) ≡ Accepted (Write p)
+    → repeats (h .last) (identifierOf content) (commandOf content) ≡ false
+    → acceptance (commandOf content) (dataOf content) ≡ Accepted (Write p)
     → Unwritten alone p (r .reader) store₁ (next h content header antenna Right) t kept k
     → (q : Answer) (asks device card store′ out′ : List ℕ)
     → Kept alone kept store′
     → length device ≡ headerLength
     → answering q store₂ out₂ ≡ answered t FRAME asks device card store′ out′
     → number (q .refusal) ≡ 0
-    → repeats (k .last) (getD asks 0 0) (getD asks 1 0) ≡ false
-    → acceptance (getD asks 1 0) (drop 2 asks) ≡ Accepted (Read p)
-    → sent (q .buffer) (q .length) store₂ out₂ ≡ wire (getD asks 0 0) (getD asks 1 0) (DATA (drop 1 (drop 2 content)))
+    → repeats (k .last) (identifierOf asks) (commandOf asks) ≡ false
+    → acceptance (commandOf asks) (dataOf asks) ≡ Accepted (Read p)
+    → sent (q .buffer) (q .length) store₂ out₂ ≡ wire (identifierOf asks) (commandOf asks) (DATA (drop 1 (dataOf content)))
 written-read {alone} {store₁ = store₁} {out₁ = out₁} {h = h} se r content header antenna store out lent whole says done new asked later
     q asks device card store′ out′ kept whole′ says′ done′ new′ asked′ =
     let on = called se r Frame content header antenna store out store₁ out₁ lent whole says in
     let se₁ = subst (λ (n : ℕ). Session alone (r .reader) store₁ (cond (eqb n 0) (next h content header antenna Right) h)) done on in
     let v = unwritten-value se₁ later in
     read-answers (v .session) q asks device card store′ out′ kept whole′ says′ done′ new′ asked′
-    ∙ ap (λ (l : List ℕ). wire (getD asks 0 0) (getD asks 1 0) (DATA l)) (v .value ∙ write-told h content header antenna new asked)
+    ∙ ap (λ (l : List ℕ). wire (identifierOf asks) (commandOf asks) (DATA l)) (v .value ∙ write-told h content header antenna new asked)

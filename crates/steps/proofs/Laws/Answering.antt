@@ -4,7 +4,7 @@ use mathlib.Core.Path.{_≡_, ap, _∙_}
 use mathlib.Core.Bool.{true, and-eq-true-iff}
 use mathlib.Core.List.{List}
 use Prim.Native.Nat.{ℕ, _≤_}
-use lib.ListN.{length, getD, take, drop}
+use lib.ListN.{length, take}
 use borrow.Author.Tests.{leb-true}
 use Rattle.ground.specs.declared.refusal.Refusal.the-variants.{None}
 use Rattle.wire.specs.Image.{image}
@@ -12,6 +12,7 @@ use Rattle.wire.specs.Writing.{After}
 use Rattle.request.specs.declared.command.Command.{Command}
 use Rattle.request.specs.declared.command.Acceptance.{Acceptance}
 use Rattle.request.specs.Acceptance.{acceptance}
+use Rattle.request.specs.Replies.{identifierOf, commandOf, dataOf}
 use Rattle.reader.specs.declared.buffer.Buffer.the-variants.{Out}
 use Rattle.reader.specs.declared.memory.Memory.the-variants.{Last}
 use Rattle.reader.specs.declared.memory.Repeat.the-variants.{New}
@@ -55,12 +56,12 @@ module _ (s : Reader) (header antenna store out : List ℕ) (identifier code : �
 
 -- a frame that repeats nothing, by its acceptance: steps 4 to 6
 pub framed-new : (s : Reader) (header antenna store out content : List ℕ) (a : Acceptance)
-    → find (s .memory) (getD content 0 0) (getD content 1 0) ≡ New
-    → acceptance (getD content 1 0) (drop 2 content) ≡ a
-    → framed s header antenna store out content ≡ judged s header antenna store out (getD content 0 0) (getD content 1 0) (drop 2 content) a
+    → find (s .memory) (identifierOf content) (commandOf content) ≡ New
+    → acceptance (commandOf content) (dataOf content) ≡ a
+    → framed s header antenna store out content ≡ judged s header antenna store out (identifierOf content) (commandOf content) (dataOf content) a
 framed-new s header antenna store out content a found asked =
     framed-by s header antenna store out content New found
-    ∙ ap (judged s header antenna store out (getD content 0 0) (getD content 1 0) (drop 2 content)) asked
+    ∙ ap (judged s header antenna store out (identifierOf content) (commandOf content) (dataOf content)) asked
 
 -- a FRAME or CHECK that is not refused has an identifier and a command
 pub front-least : (content : List ℕ) → isFront content ≡ true → leastFront ≤ length content

@@ -3,7 +3,8 @@
 use mathlib.Core.Path.{sym, ap, _∙_}
 use borrow.Author.Needs.{needs}
 use Rattle.ground.proofs.Laws.Lists.{take-rest}
-use Rattle.master.specs.Reading.{replyData, telling}
+use Rattle.request.specs.Replies.{dataOf}
+use Rattle.master.specs.Reading.{telling}
 use Rattle.master.proofs.Laws.Reading.{refuses-empty, refuses-identifier, refuses-absent, reads-sign, refuses-command, refuses-echo, reads-data}
 use Rattle.master.proofs.master.read_as.Statement.{statement}
 use Rattle.master.proofs.master.read_as.Tie as tie
@@ -15,7 +16,7 @@ returns : tie.Need-returns
 returns c =
     let a = c .before .before .before .args in
     let reply = a .reply .now in
-    ap (telling (replyData reply)) (c .refused .ensures) ∙ sym
+    ap (telling (dataOf reply)) (c .refused .ensures) ∙ sym
     (refuses-empty (a .identifier) (a .code) reply (a .command) (c .before .if1 .taken))
 
 shared-slice-read-if2 : tie.Need-shared-slice-read-if2
@@ -28,7 +29,7 @@ returns-2 : tie.Need-returns-2
 returns-2 c =
     let a = c .before .before .before .before .before .args in
     let reply = a .reply .now in
-    ap (telling (replyData reply)) (c .refused2 .ensures)
+    ap (telling (dataOf reply)) (c .refused2 .ensures)
     ∙ sym (refuses-identifier (a .identifier) (a .code) reply (a .command) (c .before .before .before .if1 .left) (c .before .if2 .taken))
 
 refused-requires-3 : tie.Need-refused-requires-3
@@ -38,7 +39,7 @@ returns-3 : tie.Need-returns-3
 returns-3 c =
     let a = c .before .before .before .before .before .before .args in
     let reply = a .reply .now in
-    ap (telling (replyData reply)) (c .refused3 .ensures)
+    ap (telling (dataOf reply)) (c .refused3 .ensures)
     ∙ sym (refuses-absent (a .identifier) (a .code) reply (a .command) (c .before .before .before .before .if1 .left)
     (c .before .before .if2 .left) (c .before .if3 .taken))
 
@@ -77,7 +78,7 @@ returns-5 c =
     let a = c .before .before .before .before .before .before .before .before .before .before .args in
     let reply = a .reply .now in
     let d = c .before .before .before .before .before in
-    ap (telling (replyData reply)) (c .refused4 .ensures)
+    ap (telling (dataOf reply)) (c .refused4 .ensures)
     ∙ sym (refuses-command (a .identifier) (a .code) reply (a .command) (d .before .before .before .if1 .left) (d .before .if2 .left)
     (d .if3 .left) (c .before .before .before .if4 .left) (c .before .if5 .taken))
 
@@ -89,7 +90,7 @@ returns-6 c =
     let a = c .before .before .before .before .before .before .before .before .before .before .before .args in
     let reply = a .reply .now in
     let d = c .before .before .before .before .before .before in
-    ap (telling (replyData reply)) (c .refused5 .ensures)
+    ap (telling (dataOf reply)) (c .refused5 .ensures)
     ∙ sym (refuses-echo (a .identifier) (a .code) reply (a .command) (d .before .before .before .if1 .left) (d .before .if2 .left)
     (d .if3 .left) (c .before .before .before .before .if4 .left) (c .before .before .if5 .left) (c .before .if6 .taken))
 

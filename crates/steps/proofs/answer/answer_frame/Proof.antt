@@ -4,11 +4,10 @@ use mathlib.Core.Path.{sym, ap, _∙_}
 use mathlib.Core.List.{List}
 use Prim.Native.Nat.{ℕ}
 use native.Mathlib.Omega.{arith}
-use lib.ListN.{getD}
 use borrow.Author.Needs.{needs}
 use Rattle.ground.proofs.Laws.Lists.{take-rest}
 use Rattle.request.specs.Acceptance.{acceptance}
-use Rattle.request.specs.Replies.{NACK, sign}
+use Rattle.request.specs.Replies.{NACK, sign, identifierOf, commandOf}
 use Rattle.request.proofs.Laws.Acceptance.{accepts, carries}
 use Rattle.reader.specs.declared.reader.Answer.{Answer}
 use Rattle.reader.specs.Replies.{replyContent}
@@ -76,7 +75,7 @@ execute-requires : tie.Need-execute-requires
 execute-requires c κs =
     let d = c .before .before .before .before .before in
     let a = c .before .before .before .before .before .before .before .before .before .before .before .before .before .before .before .before in (
-      carries (accepts (getD (a .args .content .now) 1 0) _
+      carries (accepts (commandOf (a .args .content .now)) _
           (sym (d .accept .ensures) ∙ c .before .before .before .acceptance .given .1)),
       a .pre .1,
     )
@@ -108,12 +107,12 @@ returns-2 c =
     let known = c .before .before .before .before .before .before .before .before .acceptance .given in
     d .execute .ensures
     ∙ ap
-    (λ (l : List ℕ). executed (a .reader) (a .header) (a .antenna .now) (a .store .now) (a .out .now) (getD content 0 0) (getD content 1 0) l
+    (λ (l : List ℕ). executed (a .reader) (a .header) (a .antenna .now) (a .store .now) (a .out .now) (identifierOf content) (commandOf content) l
     (known .0 .0))
     (take-rest content 2)
     ∙ sym (framed-new (a .reader) (a .header) (a .antenna .now) (a .store .now) (a .out .now) content _
     (sym (e .before .before .before .find .ensures) ∙ e .before .enum-told .given .1)
-    (ap (acceptance (getD content 1 0)) (sym (take-rest content 2)) ∙ sym (d .before .before .before .before .before .before .accept .ensures)
+    (ap (acceptance (commandOf content)) (sym (take-rest content 2)) ∙ sym (d .before .before .before .before .before .before .accept .ensures)
     ∙ known .1))
 
 same-length-3 : tie.Need-same-length-3
@@ -124,7 +123,7 @@ returns-3 c =
     let d = c .before .before .before .before .before .before .before .before .before .before in
     let a = d .before .before .before .before .before .before .before .before .before .before .args in
     let content = a .content .now in
-    let identifier = getD content 0 0 in
+    let identifier = identifierOf content in
     put-answers (a .reader) (replyContent identifier sign (NACK (c .before .before .before .before .before .nack-of .result))) (a .store .now)
     (a .out .now) (c .sending2 .ensures)
     (c .before .before .before .write-nack .ensures)
@@ -132,7 +131,7 @@ returns-3 c =
     (c .before .before .before .before .before .nack-of .ensures)
     ∙ sym (framed-new (a .reader) (a .header) (a .antenna .now) (a .store .now) (a .out .now) content _
     (sym (d .before .before .before .find .ensures) ∙ d .before .enum-told .given .1)
-    (ap (acceptance (getD content 1 0)) (sym (take-rest content 2)) ∙ sym
+    (ap (acceptance (commandOf content)) (sym (take-rest content 2)) ∙ sym
     (c .before .before .before .before .before .before .before .before .before .accept .ensures)
     ∙ c .before .before .before .before .before .before .before .acceptance2 .given .1))
 

@@ -2,9 +2,8 @@
 -- Assumes nothing.
 use mathlib.Core.Path.{sym, _∙_}
 use native.Mathlib.Omega.{arith}
-use lib.ListN.{getD}
 use borrow.Author.Needs.{needs}
-use Rattle.request.specs.Replies.{NACK, sign}
+use Rattle.request.specs.Replies.{NACK, sign, identifierOf}
 use Rattle.reader.specs.Replies.{replyContent}
 use Rattle.steps.proofs.Laws.Answering.{front-least, put-answers}
 use Rattle.steps.proofs.answer.heed.Statement.{statement}
@@ -74,7 +73,7 @@ returns-2 c =
       sym (d .is-front .ensures)
           ∙ c .before .before .before .before .before .before .if1 .taken,
     )
-    (put-answers (a .reader) (replyContent (getD (a .content .now) 0 0) sign (NACK 1)) (a .store .now) (a .out .now) (c .sending2 .ensures)
+    (put-answers (a .reader) (replyContent (identifierOf (a .content .now)) sign (NACK 1)) (a .store .now) (a .out .now) (c .sending2 .ensures)
     (c .before .before .before .write-nack .ensures))
 
 returns-3 : tie.Need-returns-3
