@@ -18,7 +18,7 @@ use Rattle.request.specs.Limits.{headerLength}
 use Rattle.request.specs.Parameters.{lengthOf}
 use Rattle.request.specs.Cards.{isCode}
 use Rattle.request.specs.Acceptance.{acceptance, isAccepted}
-use Rattle.request.specs.Replies.{Reply, ACK, NACK, DATA, sign, identifierOf, commandOf, dataOf}
+use Rattle.request.specs.Replies.{Reply, ACK, NACK, DATA, sign, identifierOf, commandOf, dataOf, ackByte}
 use Rattle.master.specs.declared.master.Meaning.{Meaning}
 use Rattle.master.specs.declared.master.Meaning.the-variants as meaning
 use Rattle.master.specs.declared.master.Reading.{Reading}
@@ -72,7 +72,7 @@ isNack reason = leb 1 reason && leb reason 6
 -- row 9: 2A byte not 55 or 1..6, or 55 where data was due
 unfoldable pub reasonRead : Command → ℕ → Outcome
 reasonRead command reason =
-    cond (eqb reason 0x55) (cond (isWrite command) (accepting ACK) (refusing WrongReason))
+    cond (eqb reason ackByte) (cond (isWrite command) (accepting ACK) (refusing WrongReason))
     (cond (isNack reason) (accepting (NACK reason)) (refusing WrongReason))
 
 -- row 8: for 2A not one byte
@@ -143,20 +143,20 @@ pub data ByTable (identifier code : ℕ) («data» reply : List ℕ) : Outcome �
       → ByTable identifier code «data» reply (refusing WrongLength)
   -- 55 where data was due; 2A byte not 55 or 1..6
   ackDue : {command : Command} → Signed identifier code «data» reply command
-      → eqb (reason reply) 0x55 ≡ true
+      → eqb (reason reply) ackByte ≡ true
       → isWrite command ≡ false
       → ByTable identifier code «data» reply (refusing WrongReason)
   noReason : {command : Command} → Signed identifier code «data» reply command
-      → eqb (reason reply) 0x55 ≡ false
+      → eqb (reason reply) ackByte ≡ false
       → isNack (reason reply) ≡ false
       → ByTable identifier code «data» reply (refusing WrongReason)
   -- ACK, NACK with number 1..6, or data
   ack : {command : Command} → Signed identifier code «data» reply command
-      → eqb (reason reply) 0x55 ≡ true
+      → eqb (reason reply) ackByte ≡ true
       → isWrite command ≡ true
       → ByTable identifier code «data» reply (accepting ACK)
   nack : {command : Command} → Signed identifier code «data» reply command
-      → eqb (reason reply) 0x55 ≡ false
+      → eqb (reason reply) ackByte ≡ false
       → isNack (reason reply) ≡ true
       → ByTable identifier code «data» reply (accepting (NACK (reason reply)))
   bytes : {command : Command} → Heeded identifier code «data» reply command

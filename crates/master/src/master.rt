@@ -112,7 +112,7 @@ fn is_write(command: Command) -> bool
 fn is_nack(reason: u8) -> bool
     ensures { λ r. ⌜ r ≡ isNack reason ⌝ }
 {
-    if reason == 0 {
+    if reason < 1 {
         return false;
     }
     reason <= MOST_NACK

@@ -20,10 +20,20 @@ commandIn code (NACK n) = sign
 commandIn code (DATA bytes) = code
 
 -- and one byte: 55 for ACK, else the NACK number
+abbrev pub ackByte : ℕ
+ackByte = 0x55
+
 abbrev pub dataIn : Reply → List ℕ
-dataIn ACK = 0x55 ∷ []
+dataIn ACK = ackByte ∷ []
 dataIn (NACK n) = n ∷ []
 dataIn (DATA bytes) = bytes
+
+-- two numbers that no request's fault has: the check was wrong; there is no card
+abbrev pub wrongCheck : ℕ
+wrongCheck = 1
+
+abbrev pub noCard : ℕ
+noCard = 6
 
 -- 01, Layout of a frame, of a content without check: identifier, command, and the data part from the third byte on
 abbrev pub identifierOf : List ℕ → ℕ

@@ -13,7 +13,7 @@ use lib.Dec.{ltb}
 use borrow.Rule.Slice.PartMut.{putMid, midOf}
 use Rattle.ground.specs.declared.refusal.Refusal.the-variants.{NoRoom}
 use Rattle.ground.specs.declared.laying.Placed.{Placed}
-use Rattle.ground.specs.Laying.{laid, Ended, ended, unplaced, placed, put}
+use Rattle.ground.specs.Laying.{laid, Ended, ended, unplaced, placed, put, onto}
 use Rattle.ground.proofs.Laws.Choice.{cond-elim}
 
 -- nothing laid is nothing changed
@@ -128,3 +128,11 @@ puts-placed {out} {at} (then {y} x r o says more) begins fits =
     puts-placed more (omega arith) (omega arith)
     ∙ ap₂ (placed y) lies end
     ∙ ap₂ (λ (k : ℕ) (l : List ℕ). record { refusal = 0; end = k; out = l }) (omega arith) (laid-more out at x y begins)
+
+-- bytes put to the front of a buffer: where there is room for them, what stands behind them stays
+pub put-onto : {e : Ended} (bytes buffer : List ℕ) → e ≡ put bytes buffer 0 → length bytes ≤ length buffer → e .out ≡ onto bytes buffer
+put-onto bytes buffer says fits = put-laid bytes buffer 0 says (omega arith) ∙ laid-front buffer bytes
+
+-- in a buffer of their length they are all there is
+pub put-whole : {e : Ended} (bytes buffer : List ℕ) → e ≡ put bytes buffer 0 → length bytes ≡ length buffer → e .out ≡ bytes
+put-whole bytes buffer says same = put-laid bytes buffer 0 says (omega arith) ∙ laid-whole buffer bytes (omega arith)

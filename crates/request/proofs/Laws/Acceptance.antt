@@ -80,7 +80,7 @@ parameter-named code =
     (λ _. cond-elim (Named code) (eqb code 0x05) (eqb-true code 0x05)
     (λ _. cond-elim (Named code) (eqb code 0x80) (eqb-true code 0x80) (λ _. tt)))
 
-pub parameter-with : (p : Parameter) → parameterWith (parameterCode p) ≡ Known p
+parameter-with : (p : Parameter) → parameterWith (parameterCode p) ≡ Known p
 unfolding parameterWith
 parameter-with Speed = refl
 parameter-with Settings = refl

@@ -7,6 +7,7 @@ use Prim.Native.Nat.{ℕ, _≤_}
 use lib.ListN.{length, take}
 use borrow.Author.Tests.{leb-true}
 use Rattle.ground.specs.declared.refusal.Refusal.the-variants.{None}
+use Rattle.ground.specs.Laying.{onto}
 use Rattle.wire.specs.Image.{image}
 use Rattle.wire.specs.Writing.{After}
 use Rattle.request.specs.declared.command.Command.{Command}
@@ -20,18 +21,17 @@ use Rattle.reader.specs.declared.parameters.Parameters.{Parameters}
 use Rattle.reader.specs.declared.reader.Reader.{Reader}
 use Rattle.reader.specs.declared.reader.Answer.{Answer}
 use Rattle.reader.specs.Limits.{leastFront}
-use Rattle.reader.specs.Copying.{onto}
 use Rattle.reader.specs.Parameters.{valueOf, doneTo}
 use Rattle.reader.specs.Memory.{find}
 use Rattle.reader.specs.Replies.{replyContent, replyTo}
 use Rattle.reader.specs.Answering.{being, answering, answerOf, sending, executed, judged, framed, isFront}
 use Rattle.reader.proofs.Laws.Answering.{framed-by}
-use Rattle.steps.specs.Replies.{Puts}
+use Rattle.steps.specs.Replies.{Fills}
 use Rattle.steps.proofs.Laws.Replies.{puts-front}
 
 -- a frame put to out, and nothing else
 pub put-answers : {r : Answer} {n : ℕ} {out′ : List ℕ} (s : Reader) (content store out : List ℕ) → r ≡ answerOf None s Out n
-    → Puts n out′ content out
+    → Fills n out′ content out
     → answering r store out′ ≡ sending s Out (length (image content)) store (onto (image content) out)
 put-answers {out′} s content store out told put =
     ap (λ (r : Answer). answering r store out′) told ∙ ap (λ (a : After). sending s Out (a .answer .count) store (a .out)) (put .0)
@@ -42,7 +42,7 @@ module _ (s : Reader) (header antenna store out : List ℕ) (identifier code : �
       → r ≡ answerOf None (being ps (Last identifier code n)) Out n
       → ps ≡ doneTo (s .parameters) command «data»
       → store′ ≡ onto (take n out′) store
-      → Puts n out′ (replyContent identifier code (replyTo (valueOf (s .parameters)) command header antenna)) out
+      → Fills n out′ (replyContent identifier code (replyTo (valueOf (s .parameters)) command header antenna)) out
       → answering r store′ out′ ≡ executed s header antenna store out identifier code «data» command
   execute-answers {r} {ps} {n} {store′} {out′} told done kept put =
       let content = replyContent identifier code (replyTo (valueOf (s .parameters)) command header antenna) in
@@ -58,7 +58,8 @@ module _ (s : Reader) (header antenna store out : List ℕ) (identifier code : �
 pub framed-new : (s : Reader) (header antenna store out content : List ℕ) (a : Acceptance)
     → find (s .memory) (identifierOf content) (commandOf content) ≡ New
     → acceptance (commandOf content) (dataOf content) ≡ a
-    → framed s header antenna store out content ≡ judged s header antenna store out (identifierOf content) (commandOf content) (dataOf content) a
+    → framed s header antenna store out content
+    ≡ judged s header antenna store out (identifierOf content) (commandOf content) (dataOf content) a
 framed-new s header antenna store out content a found asked =
     framed-by s header antenna store out content New found
     ∙ ap (judged s header antenna store out (identifierOf content) (commandOf content) (dataOf content)) asked

@@ -58,9 +58,7 @@ sub-data c =
     (c .before .before .before .before .before .before .before .before .before .pre .0)
 
 part-data-start : tie.Need-part-data-start
-part-data-start c =
-    front-least (c .before .before .before .before .before .before .before .before .before .args .content .now)
-    (c .before .before .before .before .before .before .before .before .before .pre .0)
+part-data-start c = sub-data c
 
 part-data-end : tie.Need-part-data-end
 part-data-end c = search needs
@@ -74,7 +72,7 @@ enum-known-acceptance c = search needs
 execute-requires : tie.Need-execute-requires
 execute-requires c κs =
     let d = c .before .before .before .before .before in
-    let a = c .before .before .before .before .before .before .before .before .before .before .before .before .before .before .before .before in (
+    let a = d .before .before .before .before .before .before .before .before .before .before .before in (
       carries (accepts (commandOf (a .args .content .now)) _
           (sym (d .accept .ensures) ∙ c .before .before .before .acceptance .given .1)),
       a .pre .1,
@@ -107,13 +105,13 @@ returns-2 c =
     let known = c .before .before .before .before .before .before .before .before .acceptance .given in
     d .execute .ensures
     ∙ ap
-    (λ (l : List ℕ). executed (a .reader) (a .header) (a .antenna .now) (a .store .now) (a .out .now) (identifierOf content) (commandOf content) l
-    (known .0 .0))
+    (λ (l : List ℕ). executed (a .reader) (a .header) (a .antenna .now) (a .store .now) (a .out .now) (identifierOf content)
+    (commandOf content) l (known .0 .0))
     (take-rest content 2)
     ∙ sym (framed-new (a .reader) (a .header) (a .antenna .now) (a .store .now) (a .out .now) content _
     (sym (e .before .before .before .find .ensures) ∙ e .before .enum-told .given .1)
-    (ap (acceptance (commandOf content)) (sym (take-rest content 2)) ∙ sym (d .before .before .before .before .before .before .accept .ensures)
-    ∙ known .1))
+    (ap (acceptance (commandOf content)) (sym (take-rest content 2))
+    ∙ sym (d .before .before .before .before .before .before .accept .ensures) ∙ known .1))
 
 same-length-3 : tie.Need-same-length-3
 same-length-3 c = search needs
