@@ -8,7 +8,7 @@ use borrow.Author.Needs.{needs}
 use Rattle.ground.proofs.Laws.Lists.{take-rest}
 use Rattle.request.specs.Acceptance.{acceptance}
 use Rattle.request.specs.Replies.{NACK, sign, identifierOf, commandOf}
-use Rattle.request.proofs.Laws.Acceptance.{accepts, carries}
+use Rattle.request.proofs.Laws.Acceptance.{accepts, carries, judged-as}
 use Rattle.reader.specs.declared.reader.Answer.{Answer}
 use Rattle.reader.specs.Replies.{replyContent}
 use Rattle.reader.specs.Answering.{answering, nacked, executed}
@@ -74,7 +74,7 @@ execute-requires c κs =
     let d = c .before .before .before .before .before in
     let a = d .before .before .before .before .before .before .before .before .before .before .before in (
       carries (accepts (commandOf (a .args .content .now)) _
-          (sym (d .accept .ensures) ∙ c .before .before .before .acceptance .given .1)),
+          (judged-as (commandOf (a .args .content .now)) _ (d .accept .ensures) (c .before .before .before .acceptance .given .1))),
       a .pre .1,
     )
 
@@ -111,7 +111,7 @@ returns-2 c =
     ∙ sym (framed-new (a .reader) (a .header) (a .antenna .now) (a .store .now) (a .out .now) content _
     (sym (e .before .before .before .find .ensures) ∙ e .before .enum-told .given .1)
     (ap (acceptance (commandOf content)) (sym (take-rest content 2))
-    ∙ sym (d .before .before .before .before .before .before .accept .ensures) ∙ known .1))
+    ∙ judged-as (commandOf content) _ (d .before .before .before .before .before .before .accept .ensures) (known .1)))
 
 same-length-3 : tie.Need-same-length-3
 same-length-3 c = search needs
@@ -129,9 +129,9 @@ returns-3 c =
     (c .before .before .before .before .before .nack-of .ensures)
     ∙ sym (framed-new (a .reader) (a .header) (a .antenna .now) (a .store .now) (a .out .now) content _
     (sym (d .before .before .before .find .ensures) ∙ d .before .enum-told .given .1)
-    (ap (acceptance (commandOf content)) (sym (take-rest content 2)) ∙ sym
-    (c .before .before .before .before .before .before .before .before .before .accept .ensures)
-    ∙ c .before .before .before .before .before .before .before .acceptance2 .given .1))
+    (ap (acceptance (commandOf content)) (sym (take-rest content 2))
+    ∙ judged-as (commandOf content) _ (c .before .before .before .before .before .before .before .before .before .accept .ensures)
+    (c .before .before .before .before .before .before .before .acceptance2 .given .1)))
 
 pub answer-frame-spec : {M : Type 1} → statement M
 answer-frame-spec =
