@@ -129,7 +129,7 @@ module _ (s : Reader) (header antenna store out content : List ℕ) where
       → framed s header antenna store out content
       ≡ cond (repeats last (identifierOf content) (commandOf content)) (recalledAs s store out last) judgedAs
   framed-told last remembered =
-      framed-by s header antenna store out content (find (memoryOf last) (identifierOf content) (commandOf content))
+      framed-by s header antenna store out content
       (ap (λ (m : Memory). find m (identifierOf content) (commandOf content)) remembered)
       ∙ of last
     where

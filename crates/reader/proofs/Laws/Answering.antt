@@ -30,12 +30,13 @@ unfolding poweredOn
 powers-on s good = rw good
 
 -- steps 3 to 6, by what the memory says
-module _ (s : Reader) (header antenna store out content : List ℕ) where
-  pub framed-by : (k : Repeat) → find (s .memory) (identifierOf content) (commandOf content) ≡ k
-      → framed s header antenna store out content
-      ≡ recalled s header antenna store out (identifierOf content) (commandOf content) (dataOf content) k
-  unfolding framed
-  framed-by k found = ap (recalled s header antenna store out (identifierOf content) (commandOf content) (dataOf content)) found
+pub framed-by : {k : Repeat} (s : Reader) (header antenna store out content : List ℕ)
+    → find (s .memory) (identifierOf content) (commandOf content) ≡ k
+    → framed s header antenna store out content
+    ≡ recalled s header antenna store out (identifierOf content) (commandOf content) (dataOf content) k
+unfolding framed
+framed-by s header antenna store out content found =
+    ap (recalled s header antenna store out (identifierOf content) (commandOf content) (dataOf content)) found
 
 -- an identifier, a command and data within the limit are a content that is not refused
 pub front-is : (identifier code : ℕ) («data» : List ℕ) → length «data» ≤ mostData → isFront (identifier ∷ code ∷ «data») ≡ true

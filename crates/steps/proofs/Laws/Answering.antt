@@ -55,13 +55,13 @@ module _ (s : Reader) (header antenna store out : List ℕ) (identifier code : �
       (a .out)) (put .0)
 
 -- a frame that repeats nothing, by its acceptance: steps 4 to 6
-pub framed-new : (s : Reader) (header antenna store out content : List ℕ) (a : Acceptance)
+pub framed-new : {a : Acceptance} (s : Reader) (header antenna store out content : List ℕ)
     → find (s .memory) (identifierOf content) (commandOf content) ≡ New
     → acceptance (commandOf content) (dataOf content) ≡ a
     → framed s header antenna store out content
     ≡ judged s header antenna store out (identifierOf content) (commandOf content) (dataOf content) a
-framed-new s header antenna store out content a found asked =
-    framed-by s header antenna store out content New found
+framed-new s header antenna store out content found asked =
+    framed-by s header antenna store out content found
     ∙ ap (judged s header antenna store out (identifierOf content) (commandOf content) (dataOf content)) asked
 
 -- a FRAME or CHECK that is not refused has an identifier and a command
