@@ -91,15 +91,15 @@ pub agrees-powered : {alone : Bool} {s : Reader} {held : List ℕ} {h : History}
 agrees-powered {alone} {held = held} a =
     record { values = a .values; sized = a .sized; speed = a .speed; memory = refl; fits = tt; stored = none-stored alone held }
 
-pub wire-room : (e : Executed) → length (dataIn (e .reply)) ≤ mostData → length (imageOf e) ≤ room
-wire-room e fits = point-room (e .identifier) _ (dataIn (e .reply)) fits
+pub image-room : (e : Executed) → length (dataIn (e .reply)) ≤ mostData → length (imageOf e) ≤ room
+image-room e fits = point-room (e .identifier) _ (dataIn (e .reply)) fits
 
 pub agrees-good : {alone : Bool} {s : Reader} {held : List ℕ} {h : History} → Agrees alone s held h → badState s ≡ false
 agrees-good {s} {h} a = rw (a .speed, a .memory) (of (h .last) (a .fits))
   where
     of : (last : Option Executed) → Fits last → tooFar (memoryOf last) ≡ false
     of none fits = refl
-    of (some e) fits = le-ltb room (length (imageOf e)) (wire-room e fits)
+    of (some e) fits = le-ltb room (length (imageOf e)) (image-room e fits)
 
 -- the store that a call is lent is as good as the one held
 pub agrees-lent : (alone : Bool) {s : Reader} {held store : List ℕ} {h : History} → Agrees alone s held h → Kept alone held store
@@ -205,7 +205,7 @@ module _ (alone : Bool) (s : Reader) (header antenna store out : List ℕ) (whol
       let (i, k) = and-eq-true-iff (eqb (e .identifier) (identifierOf content)) (eqb (e .code) (commandOf content)) .0 same in
       let own = eqb-true (e .identifier) (identifierOf content) i in
       let asked = eqb-true (e .code) (commandOf content) k in
-      let within : length (imageOf e) ≤ length store = omega (arith, wire-room e (a .fits), lent .1) in
+      let within : length (imageOf e) ≤ length store = omega (arith, image-room e (a .fits), lent .1) in
       record {
         none = refl;
         agrees = a;

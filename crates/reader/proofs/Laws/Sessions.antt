@@ -30,7 +30,7 @@ use Rattle.reader.specs.Sending.{sent}
 use Rattle.reader.specs.Sessions.{Executed, imageOf, History, begun, forgetting, repeats, next, nextBy, judgedReply, toSend, isRepeat, Kept, Session, made, powered, called}
 use Rattle.reader.proofs.Laws.Answering.{powers-on, front-is, does-steps, row-elim}
 use Rattle.reader.proofs.Laws.Sending.{sent-store}
-use Rattle.reader.proofs.Laws.Agreeing.{memoryOf, Fits, wire-room, framed-told, Agrees, agrees-fresh, agrees-powered, agrees-good, agrees-lent, told-step}
+use Rattle.reader.proofs.Laws.Agreeing.{memoryOf, Fits, image-room, framed-told, Agrees, agrees-fresh, agrees-powered, agrees-good, agrees-lent, told-step}
 
 -- ---- every call of a session
 
@@ -171,4 +171,4 @@ module _ {alone : Bool} {s : Reader} {held : List ℕ} {h : History} (se : Sessi
       → sent Store (length (imageOf e)) store out ≡ take (length (imageOf e)) store
   repeat-sends e antenna store out executed lent =
       let fits = subst Fits executed (session-agrees se .fits) in
-      sent-store (length (imageOf e)) store out (omega (arith, wire-room e fits, lent .1))
+      sent-store (length (imageOf e)) store out (omega (arith, image-room e fits, lent .1))
