@@ -34,3 +34,7 @@ placed bytes out at = record { refusal = 0; end = at + length bytes; out = laid 
 -- fewer places from `at` on than bytes is NoRoom
 unfoldable pub put : List ℕ → List ℕ → ℕ → Ended
 put bytes out at = cond (ltb (length out - at) (length bytes)) (unplaced NoRoom out at) (placed bytes out at)
+
+-- bytes at the front of a buffer over what stood there; later bytes stay
+abbrev pub onto : List ℕ → List ℕ → List ℕ
+onto bytes buffer = bytes ++ drop (length bytes) buffer

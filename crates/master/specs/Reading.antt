@@ -6,7 +6,7 @@ use mathlib.Core.Bool.{Bool, true, false, cond, _&&_, _||_, not}
 use mathlib.Core.List.{List}
 use mathlib.Core.Option.{Option, none, some}
 use lib.Dec.{eqb, leb}
-use lib.ListN.{length, getD, drop}
+use lib.ListN.{length, getD}
 use Rattle.ground.specs.declared.refusal.Refusal.{Refusal}
 use Rattle.ground.specs.declared.refusal.Refusal.the-variants.{BadRequest, WrongId, WrongCommand, WrongLength, WrongReason}
 use Rattle.ground.specs.Refusals.{number}
@@ -18,14 +18,10 @@ use Rattle.request.specs.Limits.{headerLength}
 use Rattle.request.specs.Parameters.{lengthOf}
 use Rattle.request.specs.Cards.{isCode}
 use Rattle.request.specs.Acceptance.{acceptance, isAccepted}
-use Rattle.request.specs.Replies.{Reply, ACK, NACK, DATA, sign}
+use Rattle.request.specs.Replies.{Reply, ACK, NACK, DATA, sign, identifierOf, commandOf, dataOf, ackByte}
 use Rattle.master.specs.declared.master.Meaning.{Meaning}
 use Rattle.master.specs.declared.master.Meaning.the-variants as meaning
 use Rattle.master.specs.declared.master.Reading.{Reading}
-
--- the data of a reply stands behind its identifier and command
-abbrev pub replyData : List ℕ → List ℕ
-replyData reply = drop 2 reply
 
 -- what each case means where the reply has this data; none where the call refused
 abbrev pub meant : List ℕ → Meaning → Option Reply
@@ -76,7 +72,7 @@ isNack reason = leb 1 reason && leb reason 6
 -- row 9: 2A byte not 55 or 1..6, or 55 where data was due
 unfoldable pub reasonRead : Command → ℕ → Outcome
 reasonRead command reason =
-    cond (eqb reason 0x55) (cond (isWrite command) (accepting ACK) (refusing WrongReason))
+    cond (eqb reason ackByte) (cond (isWrite command) (accepting ACK) (refusing WrongReason))
     (cond (isNack reason) (accepting (NACK reason)) (refusing WrongReason))
 
 -- row 8: for 2A not one byte
@@ -85,25 +81,25 @@ signRead command «data» = cond (eqb (length «data») 1) (reasonRead command (
 
 -- that byte
 abbrev pub reason : List ℕ → ℕ
-reason reply = getD (replyData reply) 0 0
+reason reply = getD (dataOf reply) 0 0
 
 -- row 6: reply identifier differs, or the content is empty
 abbrev pub wrongId : ℕ → List ℕ → Bool
-wrongId identifier reply = eqb (length reply) 0 || not (eqb (getD reply 0 0) identifier)
+wrongId identifier reply = eqb (length reply) 0 || not (eqb (identifierOf reply) identifier)
 
 abbrev pub isSign : List ℕ → Bool
-isSign reply = eqb (getD reply 1 0) sign
+isSign reply = eqb (commandOf reply) sign
 
 -- row 7: command byte absent, or neither 2A nor the request's, or 01 echoed
 abbrev pub wrongCommand : ℕ → List ℕ → Bool
-wrongCommand code reply = eqb (length reply) 1 || not (isSign reply || eqb (getD reply 1 0) code && not (eqb code 0x01))
+wrongCommand code reply = eqb (length reply) 1 || not (isSign reply || eqb (commandOf reply) code && not (eqb code 0x01))
 
 -- 'Order': 6, 7, 8, 9
 unfoldable pub readAs : ℕ → ℕ → List ℕ → Command → Outcome
 readAs identifier code reply command =
     cond (wrongId identifier reply) (refusing WrongId)
     (cond (wrongCommand code reply) (refusing WrongCommand)
-    (cond (isSign reply) (signRead command (replyData reply)) (dataRead command (replyData reply))))
+    (cond (isSign reply) (signRead command (dataOf reply)) (dataRead command (dataOf reply))))
 
 -- and before them row 5: a request that step 4 or 5 would refuse
 abbrev pub readBy : ℕ → ℕ → List ℕ → Acceptance → Outcome
@@ -121,7 +117,7 @@ Heeded identifier code «data» reply command =
 -- and it is 2A with one byte
 abbrev pub Signed : ℕ → ℕ → List ℕ → List ℕ → Command → Type 0
 Signed identifier code «data» reply command =
-    Heeded identifier code «data» reply command × ((isSign reply ≡ true) × (eqb (length (replyData reply)) 1 ≡ true))
+    Heeded identifier code «data» reply command × ((isSign reply ≡ true) × (eqb (length (dataOf reply)) 1 ≡ true))
 
 -- The master's rows of the refusal table, and the reply where no row applies. `Laws.Reading` proves that `replyRead` answers by them,
 -- and that they leave it no other answer.
@@ -139,31 +135,31 @@ pub data ByTable (identifier code : ℕ) («data» reply : List ℕ) : Outcome �
   -- for 2A not one byte; data length not as above
   signLength : {command : Command} → Heeded identifier code «data» reply command
       → isSign reply ≡ true
-      → eqb (length (replyData reply)) 1 ≡ false
+      → eqb (length (dataOf reply)) 1 ≡ false
       → ByTable identifier code «data» reply (refusing WrongLength)
   dataLength : {command : Command} → Heeded identifier code «data» reply command
       → isSign reply ≡ false
-      → isDue command (length (replyData reply)) ≡ false
+      → isDue command (length (dataOf reply)) ≡ false
       → ByTable identifier code «data» reply (refusing WrongLength)
   -- 55 where data was due; 2A byte not 55 or 1..6
   ackDue : {command : Command} → Signed identifier code «data» reply command
-      → eqb (reason reply) 0x55 ≡ true
+      → eqb (reason reply) ackByte ≡ true
       → isWrite command ≡ false
       → ByTable identifier code «data» reply (refusing WrongReason)
   noReason : {command : Command} → Signed identifier code «data» reply command
-      → eqb (reason reply) 0x55 ≡ false
+      → eqb (reason reply) ackByte ≡ false
       → isNack (reason reply) ≡ false
       → ByTable identifier code «data» reply (refusing WrongReason)
   -- ACK, NACK with number 1..6, or data
   ack : {command : Command} → Signed identifier code «data» reply command
-      → eqb (reason reply) 0x55 ≡ true
+      → eqb (reason reply) ackByte ≡ true
       → isWrite command ≡ true
       → ByTable identifier code «data» reply (accepting ACK)
   nack : {command : Command} → Signed identifier code «data» reply command
-      → eqb (reason reply) 0x55 ≡ false
+      → eqb (reason reply) ackByte ≡ false
       → isNack (reason reply) ≡ true
       → ByTable identifier code «data» reply (accepting (NACK (reason reply)))
   bytes : {command : Command} → Heeded identifier code «data» reply command
       → isSign reply ≡ false
-      → isDue command (length (replyData reply)) ≡ true
-      → ByTable identifier code «data» reply (accepting (DATA (replyData reply)))
+      → isDue command (length (dataOf reply)) ≡ true
+      → ByTable identifier code «data» reply (accepting (DATA (dataOf reply)))

@@ -9,7 +9,8 @@ use request::parameter::length_of;
 use request::sign::ACK;
 use request::sign::SIGN;
 ghost use mathlib.Core.Path.{_≡_};
-ghost use Rattle.master.specs.Reading.{replyData, telling, readingOf, isWrite, isNack, isDue, dataRead, signRead, readAs, replyRead};
+ghost use Rattle.request.specs.Replies.{dataOf};
+ghost use Rattle.master.specs.Reading.{telling, readingOf, isWrite, isNack, isDue, dataRead, signRead, readAs, replyRead};
 
 const MOST_NACK: u8 = 6;
 
@@ -30,7 +31,7 @@ pub struct Reading {
 // with another identifier or none (WrongId), with another command or none (WrongCommand), with data of another length (WrongLength),
 // and a sign that is no answer to this request (WrongReason), in this order.
 pub fn read_reply(identifier: u8, code: u8, data: &[u8], reply: &[u8]) -> Reading
-    ensures { λ r. ⌜ telling (replyData (now (reply .entry))) r ≡ replyRead identifier code (now («data» .entry)) (now (reply .entry)) ⌝ }
+    ensures { λ r. ⌜ telling (dataOf (now (reply .entry))) r ≡ replyRead identifier code (now («data» .entry)) (now (reply .entry)) ⌝ }
 {
     let acceptance = accept(code, data);
     match acceptance {
@@ -41,7 +42,7 @@ pub fn read_reply(identifier: u8, code: u8, data: &[u8], reply: &[u8]) -> Readin
 
 // The reply to this command.
 fn read_as(identifier: u8, code: u8, command: Command, reply: &[u8]) -> Reading
-    ensures { λ r. ⌜ telling (replyData (now (reply .entry))) r ≡ readAs identifier code (now (reply .entry)) command ⌝ }
+    ensures { λ r. ⌜ telling (dataOf (now (reply .entry))) r ≡ readAs identifier code (now (reply .entry)) command ⌝ }
 {
     if reply.len() == 0 {
         return Reading::refused(Refusal::WrongId);
@@ -66,7 +67,7 @@ fn read_as(identifier: u8, code: u8, command: Command, reply: &[u8]) -> Reading
 
 // The data of a reply: what stands behind its identifier and command.
 pub fn data_of(content: &[u8]) -> &[u8]
-    ensures { λ r. ⌜ now r ≡ replyData (now (content .entry)) ⌝ }
+    ensures { λ r. ⌜ now r ≡ dataOf (now (content .entry)) ⌝ }
 {
     if content.len() < 2 {
         return &content[..0];
@@ -111,7 +112,7 @@ fn is_write(command: Command) -> bool
 fn is_nack(reason: u8) -> bool
     ensures { λ r. ⌜ r ≡ isNack reason ⌝ }
 {
-    if reason == 0 {
+    if reason < 1 {
         return false;
     }
     reason <= MOST_NACK

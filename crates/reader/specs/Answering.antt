@@ -5,10 +5,11 @@ use mathlib.Core.Path.{_≡_}
 use mathlib.Core.Bool.{Bool, true, false, cond, _&&_, _||_, not}
 use mathlib.Core.List.{List}
 use lib.Dec.{ltb, leb}
-use lib.ListN.{length, getD, drop}
+use lib.ListN.{length}
 use Rattle.ground.specs.declared.refusal.Refusal.{Refusal}
 use Rattle.ground.specs.declared.refusal.Refusal.the-variants.{NoRoom, TooLong, BadState, BadRequest}
 use Rattle.ground.specs.Refusals.{number}
+use Rattle.ground.specs.Laying.{onto}
 use Rattle.station.specs.Events.{Name}
 use Rattle.request.specs.declared.command.Command.{Command}
 use Rattle.request.specs.declared.command.Acceptance.{Acceptance}
@@ -16,7 +17,7 @@ use Rattle.request.specs.declared.command.Acceptance.the-variants.{Accepted, Re
 use Rattle.request.specs.Limits.{mostAntenna}
 use Rattle.request.specs.Parameters.{isSpeed}
 use Rattle.request.specs.Acceptance.{acceptance, nackOf}
-use Rattle.request.specs.Replies.{NACK, sign}
+use Rattle.request.specs.Replies.{NACK, sign, identifierOf, commandOf, dataOf, wrongCheck}
 use Rattle.reader.specs.declared.asking.Asking.{Asking}
 use Rattle.reader.specs.declared.asking.Asking.the-variants.{Nothing, Wrong, Right}
 use Rattle.reader.specs.declared.buffer.Buffer.{Buffer}
@@ -30,12 +31,11 @@ use Rattle.reader.specs.declared.reader.Reader.{Reader}
 use Rattle.reader.specs.declared.reader.Powered.{Powered}
 use Rattle.reader.specs.declared.reader.Answer.{Answer}
 use Rattle.reader.specs.Limits.{room, leastFront, mostFront}
-use Rattle.reader.specs.Copying.{onto}
 use Rattle.reader.specs.Parameters as parameters
 use Rattle.reader.specs.Parameters.{valueOf, doneTo}
 use Rattle.reader.specs.Asking.{asking}
 use Rattle.reader.specs.Memory.{find, tooFar}
-use Rattle.reader.specs.Replies.{wire, replyTo}
+use Rattle.reader.specs.Replies.{replyImage, replyTo}
 
 abbrev pub being : Parameters → Memory → Reader
 being ps memory = record { parameters = ps; memory = memory }
@@ -105,14 +105,14 @@ refusing why s store out =
 -- steps 2, 4 and 5 write only to out and leave memory and store untouched; a NACK's frame carries no command
 abbrev pub nacked : Reader → ℕ → ℕ → List ℕ → List ℕ → Answered
 nacked s identifier n store out =
-    let bytes = wire identifier sign (NACK n) in
+    let bytes = replyImage identifier sign (NACK n) in
     sending s Out (length bytes) store (onto bytes out)
 
 module _ (s : Reader) (header antenna store out : List ℕ) where
   -- 6. the reply is written to out, copied to the front of the store, and identifier, command and length are remembered
   abbrev pub executed : ℕ → ℕ → List ℕ → Command → Answered
   executed identifier code «data» command =
-      let bytes = wire identifier code (replyTo (valueOf (s .parameters)) command header antenna) in
+      let bytes = replyImage identifier code (replyTo (valueOf (s .parameters)) command header antenna) in
       sending (being (doneTo (s .parameters) command «data») (Last identifier code (length bytes)))
       Out (length bytes) (onto bytes store) (onto bytes out)
 
@@ -126,17 +126,15 @@ module _ (s : Reader) (header antenna store out : List ℕ) where
   recalled identifier code «data» (Stored length) = sending s Store length store out
   recalled identifier code «data» New = judged identifier code «data» (acceptance code «data»)
 
-  -- identifier, command, and the data part from the third content byte to the check
+  -- of a FRAME, by its identifier, command and data part
   unfoldable pub framed : List ℕ → Answered
   framed content =
-      let identifier = getD content 0 0 in
-      let code = getD content 1 0 in
-      recalled identifier code (drop 2 content) (find (s .memory) identifier code)
+      recalled (identifierOf content) (commandOf content) (dataOf content) (find (s .memory) (identifierOf content) (commandOf content))
 
   -- 1. no answer, an empty part of the out buffer. 2. CHECK: NACK 1, with the received identifier
   abbrev pub stepped : Asking → List ℕ → Answered
   stepped Nothing content = sending s Out 0 store out
-  stepped Wrong content = nacked s (getD content 0 0) 1 store out
+  stepped Wrong content = nacked s (identifierOf content) wrongCheck store out
   stepped Right content = framed content
 
 -- row 5: a FRAME or CHECK whose content without check is not 2..62 bytes

@@ -3,7 +3,6 @@
 -- says of a reader over many calls; Examples beside 'Bench examples'.
 -- The contents of frames are those of `link`, images those of `wire`, commands and the data that they accept those of `request`.
 pub mod Limits
-pub mod Copying
 pub mod Parameters
 pub mod Asking
 pub mod Replies

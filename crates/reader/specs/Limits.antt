@@ -1,7 +1,8 @@
 -- The limits of the point reader, each under one name.
 -- Assumes nothing.
-use Prim.Native.Nat.{ℕ, _-_}
-use Rattle.wire.specs.Limits.{mostContent, mostImage}
+use Prim.Native.Nat.{ℕ, _+_}
+use Rattle.wire.specs.Limits.{mostImage}
+use Rattle.link.specs.Limits.{mostData}
 
 -- 01, The point reader: a store and an out buffer, each of at least 130 bytes, which hold the image of any frame
 abbrev pub room : ℕ
@@ -12,4 +13,4 @@ abbrev pub leastFront : ℕ
 leastFront = 2
 
 abbrev pub mostFront : ℕ
-mostFront = mostContent - 2
+mostFront = leastFront + mostData

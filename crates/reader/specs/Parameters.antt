@@ -7,11 +7,12 @@ use Rattle.request.specs.declared.parameter.Parameter.{Parameter}
 use Rattle.request.specs.declared.parameter.Parameter.the-variants.{Speed, Settings, Cell}
 use Rattle.request.specs.declared.command.Command.{Command}
 use Rattle.request.specs.declared.command.Command.the-variants.{Header, Write, Read, Card}
+use Rattle.request.specs.Parameters.{lengthOf}
 use Rattle.reader.specs.declared.parameters.Parameters.{Parameters}
 
 -- a fresh reader has speed 3, zeros in the others
 abbrev pub fresh : Parameters
-fresh = record { speed = 3; settings = replicate 4 0; cell = replicate 8 0 }
+fresh = record { speed = 3; settings = replicate (lengthOf Settings) 0; cell = replicate (lengthOf Cell) 0 }
 
 -- the value as bytes
 abbrev pub valueOf : Parameters → Parameter → List ℕ

@@ -11,14 +11,14 @@ use Rattle.request.specs.declared.parameter.Parameter.{Parameter}
 use Rattle.request.specs.declared.command.Command.{Command}
 use Rattle.request.specs.declared.command.Command.the-variants.{Header, Write, Read, Card}
 use Rattle.request.specs.Cards.{isCode}
-use Rattle.request.specs.Replies.{Reply, ACK, NACK, DATA, commandIn, dataIn}
+use Rattle.request.specs.Replies.{Reply, ACK, NACK, DATA, commandIn, dataIn, noCard}
 
 -- a reply's content with its check, and its frame's whole image
 abbrev pub replyContent : ℕ → ℕ → Reply → List ℕ
 replyContent identifier code reply = pointContent identifier (commandIn code reply) (dataIn reply)
 
-abbrev pub wire : ℕ → ℕ → Reply → List ℕ
-wire identifier code reply = image (replyContent identifier code reply)
+abbrev pub replyImage : ℕ → ℕ → Reply → List ℕ
+replyImage identifier code reply = image (replyContent identifier code reply)
 
 -- the third column of the table, where the parameters have these values: the header; ACK; the value; the antenna's bytes as they come,
 -- or NACK 6 for no card and for a number of bytes that is not the card's
@@ -26,10 +26,10 @@ unfoldable pub replyTo : (Parameter → List ℕ) → Command → List ℕ → L
 replyTo value Header header antenna = DATA header
 replyTo value (Write p) header antenna = ACK
 replyTo value (Read p) header antenna = DATA (value p)
-replyTo value (Card card) header antenna = cond (isCode card (length antenna)) (DATA antenna) (NACK 6)
+replyTo value (Card card) header antenna = cond (isCode card (length antenna)) (DATA antenna) (NACK noCard)
 
 -- ACK, NACK 6 or data: never NACK 2 or 3
 abbrev pub IsAnswer : Reply → Type 0
 IsAnswer ACK = Unit {0}
-IsAnswer (NACK n) = n ≡ 6
+IsAnswer (NACK n) = n ≡ noCard
 IsAnswer (DATA bytes) = Unit {0}

@@ -1,13 +1,13 @@
 -- A reader over many calls. What it has to remember and to answer is told from the calls' inputs, and from whether a call was refused: no
--- definition here looks into its record. Demand 2, of repeats: a request that repeats the identifier and command of the last one executed since power-on gets the stored reply and
--- executes nothing. 01, The point reader. Assumes nothing.
+-- definition here looks into its record. Demand 2, of repeats: a request that repeats the identifier and command of the last one executed
+-- since power-on gets the stored reply and executes nothing. 01, The point reader. Assumes nothing.
 use Prim.Native.Nat.{ℕ}
 use mathlib.Core.Path.{_≡_}
 use mathlib.Core.Bool.{Bool, true, false, cond, _&&_, not}
 use mathlib.Core.List.{List, [], _∷_}
 use mathlib.Core.Option.{Option, none, some, Option·map}
 use lib.Dec.{eqb}
-use lib.ListN.{length, getD, drop}
+use lib.ListN.{length, drop}
 use Rattle.ground.specs.Refusals.{number}
 use Rattle.station.specs.declared.event.Event.{Event}
 use Rattle.station.specs.Events.{named}
@@ -20,14 +20,14 @@ use Rattle.request.specs.declared.command.Acceptance.the-variants.{Accepted, Re
 use Rattle.request.specs.Limits.{headerLength}
 use Rattle.request.specs.Parameters.{parameterCode}
 use Rattle.request.specs.Acceptance.{acceptance, nackOf, isAccepted}
-use Rattle.request.specs.Replies.{Reply, NACK}
+use Rattle.request.specs.Replies.{Reply, NACK, identifierOf, commandOf, dataOf, wrongCheck}
 use Rattle.reader.specs.declared.asking.Asking.{Asking}
 use Rattle.reader.specs.declared.asking.Asking.the-variants.{Nothing, Wrong, Right}
 use Rattle.reader.specs.declared.reader.Reader.{Reader}
 use Rattle.reader.specs.declared.reader.Powered.{Powered}
 use Rattle.reader.specs.declared.reader.Answer.{Answer}
 use Rattle.reader.specs.Asking.{asking}
-use Rattle.reader.specs.Replies.{wire, replyTo}
+use Rattle.reader.specs.Replies.{replyImage, replyTo}
 use Rattle.reader.specs.Answering.{fresh, powering, poweredOn, answering, answered}
 
 -- ---- what the calls so far tell
@@ -39,8 +39,8 @@ pub record Executed : Type 0 where
   pub reply : Reply
 
 -- the bytes of that reply's frame
-abbrev pub wireOf : Executed → List ℕ
-wireOf e = wire (e .identifier) (e .code) (e .reply)
+abbrev pub imageOf : Executed → List ℕ
+imageOf e = replyImage (e .identifier) (e .code) (e .reply)
 
 -- the value last written to each parameter, and the last command executed since power-on
 pub record History : Type 0 where
@@ -66,10 +66,10 @@ abbrev pub repeats : Option Executed → ℕ → ℕ → Bool
 repeats none identifier code = false
 repeats (some e) identifier code = eqb (e .identifier) identifier && eqb (e .code) code
 
-abbrev pub isRight : Asking → Bool
-isRight Nothing = false
-isRight Wrong = false
-isRight Right = true
+abbrev pub isFrame : Asking → Bool
+isFrame Nothing = false
+isFrame Wrong = false
+isFrame Right = true
 
 -- one parameter gets another value
 abbrev pub written : (Parameter → List ℕ) → Parameter → List ℕ → Parameter → List ℕ
@@ -82,28 +82,31 @@ valuesAfter value (Write p) «data» = written value p (drop 1 «data»)
 valuesAfter value (Read p) «data» = value
 valuesAfter value (Card card) «data» = value
 
+-- the whole image of a reply's frame, with the identifier of the content received; nothing where there is no answer
+abbrev pub bytesOf : List ℕ → Option Reply → List ℕ
+bytesOf content none = []
+bytesOf content (some reply) = replyImage (identifierOf content) (commandOf content) reply
+
 module _ (h : History) (content header antenna : List ℕ) where
-  abbrev identifier : ℕ
-  identifier = getD content 0 0
-
-  abbrev code : ℕ
-  code = getD content 1 0
-
-  abbrev «data» : List ℕ
-  «data» = drop 2 content
-
   -- step 6: executed, and remembered; steps 4 and 5: not
   abbrev pub judgedNext : Acceptance → History
   judgedNext (Refused fault) = h
   judgedNext (Accepted command) =
       record {
-        value = valuesAfter (h .value) command «data»;
-        last = some (record { identifier = identifier; code = code; reply = replyTo (h .value) command header antenna });
+        value = valuesAfter (h .value) command (dataOf content);
+        last = some
+            (record { identifier = identifierOf content; code = commandOf content; reply = replyTo (h .value) command header antenna });
       }
 
   -- what is told behind a call that was not refused
   abbrev pub next : Asking → History
-  next asked = cond (isRight asked) (cond (repeats (h .last) identifier code) h (judgedNext (acceptance code «data»))) h
+  next asked =
+      cond (isFrame asked)
+      (cond (repeats (h .last) (identifierOf content) (commandOf content)) h (judgedNext (acceptance (commandOf content) (dataOf content)))) h
+
+  -- and behind any call, by its refusal: one that was refused tells nothing
+  abbrev pub nextBy : Asking → ℕ → History
+  nextBy asked refusal = cond (eqb refusal 0) (next asked) h
 
   -- the reply meant: by steps 4 to 6
   abbrev pub judgedReply : Acceptance → Reply
@@ -113,28 +116,23 @@ module _ (h : History) (content header antenna : List ℕ) where
   -- by steps 1 to 3
   abbrev pub meant : Asking → Option Reply
   meant Nothing = none
-  meant Wrong = some (NACK 1)
+  meant Wrong = some (NACK wrongCheck)
   meant Right =
-      cond (repeats (h .last) identifier code) (Option·map (λ (e : Executed). e .reply) (h .last))
-      (some (judgedReply (acceptance code «data»)))
-
-  -- its frame's whole image, with the received identifier; nothing where there is no answer
-  abbrev pub bytesOf : Option Reply → List ℕ
-  bytesOf none = []
-  bytesOf (some reply) = wire identifier code reply
+      cond (repeats (h .last) (identifierOf content) (commandOf content)) (Option·map (λ (e : Executed). e .reply) (h .last))
+      (some (judgedReply (acceptance (commandOf content) (dataOf content))))
 
   abbrev pub toSend : Asking → List ℕ
-  toSend asked = bytesOf (meant asked)
+  toSend asked = bytesOf content (meant asked)
 
 -- a FRAME that repeats the last executed command
 abbrev pub isRepeat : History → List ℕ → Asking → Bool
-isRepeat h content asked = isRight asked && repeats (h .last) (getD content 0 0) (getD content 1 0)
+isRepeat h content asked = isFrame asked && repeats (h .last) (identifierOf content) (commandOf content)
 
 -- a FRAME that is executed, unless the call refuses: no repeat, and accepted
 abbrev pub executes : History → List ℕ → Asking → Bool
 executes h content asked =
-    isRight asked
-    && (not (repeats (h .last) (getD content 0 0) (getD content 1 0)) && isAccepted (acceptance (getD content 1 0) (drop 2 content)))
+    isFrame asked
+    && (not (repeats (h .last) (identifierOf content) (commandOf content)) && isAccepted (acceptance (commandOf content) (dataOf content)))
 
 -- ---- a session
 
@@ -157,7 +155,7 @@ pub data Session (alone : Bool) : Reader → List ℕ → History → Type 0 whe
       → Kept alone held store
       → length header ≡ headerLength
       → answering r store′ out′ ≡ answered s (named event) content header antenna store out
-      → Session alone (r .reader) store′ (cond (eqb (number (r .refusal)) 0) (next h content header antenna (asking (named event))) h)
+      → Session alone (r .reader) store′ (nextBy h content header antenna (asking (named event)) (number (r .refusal)))
 
 -- calls in a row that execute nothing, refused ones too, from one reader and store to another
 pub data Idle (alone : Bool) (h : History) (s : Reader) (held : List ℕ) : Reader → List ℕ → Type 0 where
@@ -183,8 +181,8 @@ pub data Unwritten (alone : Bool) (p : Parameter) (s : Reader) (held : List ℕ)
       → length header ≡ headerLength
       → (number (r .refusal) ≡ 0
       → executes k content (asking (named event)) ≡ true
-      → acceptance (getD content 1 0) (drop 2 content) ≡ Accepted (Write p)
+      → acceptance (commandOf content) (dataOf content) ≡ Accepted (Write p)
       → ⊥)
       → answering r store′ out′ ≡ answered t (named event) content header antenna store out
       → Unwritten alone p s held h (r .reader) store′
-      (cond (eqb (number (r .refusal)) 0) (next k content header antenna (asking (named event))) k)
+      (nextBy k content header antenna (asking (named event)) (number (r .refusal)))

@@ -70,6 +70,19 @@ abbrev pub nackOf : Fault → ℕ
 nackOf UnknownCode = 2
 nackOf BadData = 3
 
+-- a call's answer in the paper's numbers: a command by its code, one on a parameter by both codes, a fault by its NACK's number
+pub data Judgement : Type 0 where
+  byCode : (code : ℕ) → Judgement
+  byCodes : (code parameter : ℕ) → Judgement
+  byNumber : (nack : ℕ) → Judgement
+
+abbrev pub judgement : Acceptance → Judgement
+judgement (Accepted Header) = byCode (commandCode Header)
+judgement (Accepted (Write p)) = byCodes (commandCode (Write p)) (parameterCode p)
+judgement (Accepted (Read p)) = byCodes (commandCode (Read p)) (parameterCode p)
+judgement (Accepted (Card card)) = byCode (commandCode (Card card))
+judgement (Refused fault) = byNumber (nackOf fault)
+
 abbrev pub isAccepted : Acceptance → Bool
 isAccepted (Accepted command) = true
 isAccepted (Refused fault) = false

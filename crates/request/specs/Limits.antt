@@ -9,3 +9,7 @@ mostAntenna = 8
 -- 01, The point reader: the device header, 40 bytes
 abbrev pub headerLength : ℕ
 headerLength = 40
+
+-- 001, 'Заголовок устройства': of these the name, 20 bytes
+abbrev pub nameLength : ℕ
+nameLength = 20

@@ -26,7 +26,7 @@ pub fn is_code(card: Card, length: usize) -> bool
 fn is_read(length: usize) -> bool
     ensures { λ r. ⌜ r ≡ isRead length ⌝ }
 {
-    if length == 0 {
+    if length < 1 {
         return false;
     }
     length <= MOST_ANTENNA

@@ -5,7 +5,7 @@ use crate::parameter::Parameter;
 use crate::parameter::takes;
 use crate::parameter::with_code;
 ghost use mathlib.Core.Path.{_≡_};
-ghost use Rattle.request.specs.Acceptance.{bare as bareOf, writing as writingOf, reading as readingOf, acceptance, nackOf};
+ghost use Rattle.request.specs.Acceptance.{bare as bareOf, writing as writingOf, reading as readingOf, acceptance, nackOf, judgement};
 
 // What a request asks for: the device header (code 00), to write or read a parameter (01, 02), to read an EM-Marin, HID or Motorola
 // card (10, 14, 18).
@@ -29,7 +29,7 @@ pub enum Acceptance {
 
 // What this code asks for with this data.
 pub fn accept(code: u8, data: &[u8]) -> Acceptance
-    ensures { λ r. ⌜ r ≡ acceptance code (now («data» .entry)) ⌝ }
+    ensures { λ r. ⌜ judgement r ≡ judgement (acceptance code (now («data» .entry))) ⌝ }
 {
     match code {
         0x00 => bare(Command::Header, data),

@@ -8,5 +8,5 @@ use Rattle.wire.specs.Writing.{leaving, putting}
 use Rattle.reader.specs.Limits.{room}
 
 -- this content's image was put to the front of a buffer with that room
-abbrev pub Puts : ℕ → List ℕ → List ℕ → List ℕ → Type 0
-Puts count out′ content out = (leaving (counted count) out′ ≡ putting content out) × (count ≤ room)
+abbrev pub Fills : ℕ → List ℕ → List ℕ → List ℕ → Type 0
+Fills count out′ content out = (leaving (counted count) out′ ≡ putting content out) × (count ≤ room)

@@ -27,7 +27,7 @@ ghost use mathlib.Core.Bool.{true};
 ghost use Rattle.station.specs.Events.{named};
 ghost use Rattle.request.specs.Acceptance.{Carries};
 ghost use Rattle.reader.specs.Asking.{asking as askingOf};
-ghost use Rattle.reader.specs.Answering.{isFront, answering, Lent, executed as executedOf, framed, heeded, answered};
+ghost use Rattle.reader.specs.Answering.{answering, Lent, executed as executedOf, framed, isFront, fits as fitsOf, heeded, answered};
 
 // Answers what a receiver heard: an event with its content, the check cut off. What is to be sent stands in `out`, on a repeat in
 // `store`; `to_send` hands it back. Refuses a reader as `power_on` does (BadState), `store` or `out` under 130 bytes (NoRoom), an
@@ -73,26 +73,18 @@ fn heed(
     ensures { λ r. ⌜ answering r (now (store .exit)) (now (out .exit)) ≡ heeded reader (askingOf (named event)) (now (content .entry)) header (now (antenna .entry)) (now (store .entry)) (now (out .entry)) ⌝ }
 {
     let asking = asked_by(event);
-    match asking {
-        Asking::Nothing => Answer::sending(reader, Buffer::Out, 0),
-        Asking::Wrong => {
-            if is_front(content) {
-                Answer::sending(
-                    reader,
-                    Buffer::Out,
-                    write_nack(content[0], WRONG_CHECK, out),
-                )
-            } else {
-                Answer::refused(Refusal::BadRequest, reader)
-            }
+    if fits(asking, content) {
+        match asking {
+            Asking::Nothing => Answer::sending(reader, Buffer::Out, 0),
+            Asking::Wrong => Answer::sending(
+                reader,
+                Buffer::Out,
+                write_nack(content[0], WRONG_CHECK, out),
+            ),
+            Asking::Right => answer_frame(reader, content, header, antenna, store, out),
         }
-        Asking::Right => {
-            if is_front(content) {
-                answer_frame(reader, content, header, antenna, store, out)
-            } else {
-                Answer::refused(Refusal::BadRequest, reader)
-            }
-        }
+    } else {
+        Answer::refused(Refusal::BadRequest, reader)
     }
 }
 
@@ -164,6 +156,17 @@ fn execute(
     };
     let reader = Reader { parameters, memory };
     Answer::sending(reader, Buffer::Out, length)
+}
+
+// Whether what is asked may come with this content.
+fn fits(asking: Asking, content: &[u8]) -> bool
+    ensures { λ r. ⌜ r ≡ fitsOf asking (now (content .entry)) ⌝ }
+{
+    match asking {
+        Asking::Nothing => true,
+        Asking::Wrong => is_front(content),
+        Asking::Right => is_front(content),
+    }
 }
 
 // Whether a FRAME or CHECK may carry this content.

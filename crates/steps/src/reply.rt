@@ -16,7 +16,7 @@ ghost use Rattle.request.specs.Replies.{NACK, DATA, sign};
 ghost use Rattle.reader.specs.Limits.{room};
 ghost use Rattle.reader.specs.Parameters.{valueOf};
 ghost use Rattle.reader.specs.Replies.{replyContent, replyTo};
-ghost use Rattle.steps.specs.Replies.{Puts};
+ghost use Rattle.steps.specs.Replies.{Fills};
 
 // The NACKs to a wrong check, and for no card.
 pub(crate) const WRONG_CHECK: u8 = 1;
@@ -26,7 +26,7 @@ const NO_CARD: u8 = 6;
 // Writes the frame with this command and data to the front of `out`, and answers its length. It fits, so nothing is refused.
 fn write(identifier: u8, command: u8, data: &[u8], out: &mut [u8]) -> usize
     requires { ⌜ (length (now «data») ≤ mostData) × (room ≤ length (now out)) ⌝ }
-    ensures { λ r. ⌜ Puts r (now (out .exit)) (pointContent identifier command (now («data» .entry))) (now (out .entry)) ⌝ }
+    ensures { λ r. ⌜ Fills r (now (out .exit)) (pointContent identifier command (now («data» .entry))) (now (out .entry)) ⌝ }
 {
     let written = write_point(identifier, command, data, out);
     written.count
@@ -34,7 +34,7 @@ fn write(identifier: u8, command: u8, data: &[u8], out: &mut [u8]) -> usize
 
 pub(crate) fn write_nack(identifier: u8, number: u8, out: &mut [u8]) -> usize
     requires { ⌜ room ≤ length (now out) ⌝ }
-    ensures { λ r. ⌜ Puts r (now (out .exit)) (replyContent identifier sign (NACK number)) (now (out .entry)) ⌝ }
+    ensures { λ r. ⌜ Fills r (now (out .exit)) (replyContent identifier sign (NACK number)) (now (out .entry)) ⌝ }
 {
     write(identifier, SIGN, &[number], out)
 }
@@ -50,7 +50,7 @@ pub(crate) fn write_reply(
     out: &mut [u8],
 ) -> usize
     requires { ⌜ (length (now antenna) ≤ mostAntenna) × (room ≤ length (now out)) ⌝ }
-    ensures { λ r. ⌜ Puts r (now (out .exit)) (replyContent identifier code (replyTo (valueOf parameters) command header (now (antenna .entry)))) (now (out .entry)) ⌝ }
+    ensures { λ r. ⌜ Fills r (now (out .exit)) (replyContent identifier code (replyTo (valueOf parameters) command header (now (antenna .entry)))) (now (out .entry)) ⌝ }
 {
     match command {
         Command::Header => write(identifier, code, &header, out),
@@ -74,7 +74,7 @@ fn write_value(
     out: &mut [u8],
 ) -> usize
     requires { ⌜ room ≤ length (now out) ⌝ }
-    ensures { λ r. ⌜ Puts r (now (out .exit)) (replyContent identifier code (DATA (valueOf parameters parameter))) (now (out .entry)) ⌝ }
+    ensures { λ r. ⌜ Fills r (now (out .exit)) (replyContent identifier code (DATA (valueOf parameters parameter))) (now (out .entry)) ⌝ }
 {
     match parameter {
         Parameter::Speed => write(identifier, code, &[parameters.speed], out),

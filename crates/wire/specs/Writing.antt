@@ -2,13 +2,14 @@
 -- 01, Layout of a frame, the last paragraph, and Refusal numbers. Assumes nothing.
 use Prim.Native.Nat.{ℕ}
 use mathlib.Core.Bool.{cond}
-use mathlib.Core.List.{List, _++_}
+use mathlib.Core.List.{List}
 use lib.Dec.{ltb}
-use lib.ListN.{length, drop}
+use lib.ListN.{length}
 use Rattle.ground.specs.declared.refusal.Refusal.{Refusal}
 use Rattle.ground.specs.declared.refusal.Refusal.the-variants.{NoRoom, TooLong}
 use Rattle.ground.specs.declared.refusal.Counted.{Counted}
 use Rattle.ground.specs.Refusals.{Answer, answered, refused, counted}
+use Rattle.ground.specs.Laying.{onto}
 use Rattle.wire.specs.Limits.{mostContent}
 use Rattle.wire.specs.Image.{image, imageLength}
 
@@ -34,7 +35,7 @@ refusing why out = leaving (refused why) out
 
 -- 01, Layout of a frame, the last paragraph: the count is the image's length, and bytes behind the image stay as they were
 abbrev pub putting : List ℕ → List ℕ → After
-putting content out = leaving (counted (length (image content))) (image content ++ drop (length (image content)) out)
+putting content out = leaving (counted (length (image content))) (onto (image content) out)
 
 -- 01, Refusal numbers, row 1: out shorter than the image is NoRoom
 unfoldable pub imageWritten : List ℕ → List ℕ → After

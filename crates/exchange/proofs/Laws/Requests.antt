@@ -5,7 +5,6 @@ use mathlib.Core.Bool.{Bool, false, true≢false}
 use mathlib.Core.List.{List, _∷_, _++_, List·Memᴰ}
 use mathlib.Core.Logic.{_⊎_, inl, inr}
 use Prim.Native.Nat.{ℕ, _+_, _≤_}
-use native.Mathlib.Omega.{arith}
 use lib.ListN.{length, take}
 use Rattle.ground.specs.declared.refusal.Counted.{Counted}
 use Rattle.ground.specs.Refusals as refusals
@@ -14,11 +13,7 @@ use Rattle.station.specs.declared.line.Line.the-variants.{Point}
 use Rattle.station.specs.Events.{FRAME}
 use Rattle.link.specs.declared.receiver.Receiver.{Receiver}
 use Rattle.link.specs.Limits.{mostData}
-use Rattle.link.specs.Frame.{pointContent}
 use Rattle.link.specs.Hearing.{Told, toldAt, IsFresh, Hearing}
-use Rattle.link.specs.Writers as writers
-use Rattle.link.proofs.Laws.Writers.{point-by-table}
-use Rattle.link.proofs.Laws.Listed.{point-listed}
 use Rattle.request.specs.declared.command.Command.{Command}
 use Rattle.request.specs.declared.command.Acceptance.{Acceptance}
 use Rattle.request.specs.declared.command.Acceptance.the-variants.{Accepted, Refused}
@@ -27,52 +22,14 @@ use Rattle.request.specs.declared.command.Fault.the-variants.{UnknownCode, BadD
 use Rattle.request.specs.Acceptance.{acceptance, nackOf, isAccepted}
 use Rattle.request.specs.Requesting.{requestWritten}
 use Rattle.request.proofs.Laws.Acceptance.{accepts, accepted-short}
-use Rattle.request.proofs.Laws.Requesting.{request-refused, request-written}
+use Rattle.request.proofs.Laws.Requesting.{written-asks, refused-asks, request-heard}
 use Rattle.reader.specs.declared.reader.Reader.{Reader}
 use Rattle.reader.specs.Parameters.{valueOf}
 use Rattle.reader.specs.Replies.{IsAnswer, replyTo}
 use Rattle.reader.specs.Answering.{fresh, Lent, nacked, executed, judged, answered}
-use Rattle.reader.specs.Sessions.{History, repeats, Session, made, begun}
-use Rattle.reader.proofs.Laws.Sessions.{session-judges}
+use Rattle.reader.specs.Sessions.{History, repeats, Session}
+use Rattle.reader.proofs.Laws.Sessions.{fresh-session, session-judges}
 use Rattle.reader.proofs.Laws.Replies.{executed-answer}
-
--- a code with data is accepted or not
-data Either (k : Acceptance) : Type 0 where
-  no : isAccepted k ≡ false → Either k
-  yes : (command : Command) → k ≡ Accepted command → Either k
-
-either : (k : Acceptance) → Either k
-either (Refused fault) = no refl
-either (Accepted command) = yes command refl
-
-module _ (identifier code : ℕ) («data» out : List ℕ) where
-  -- where the writer did not refuse, there is a command
-  written-asks : requestWritten identifier code «data» out .answer .refusal ≡ 0
-      → (command : Command) × (acceptance code «data» ≡ Accepted command)
-  written-asks done = of (either (acceptance code «data»))
-    where
-      of : Either (acceptance code «data») → (command : Command) × (acceptance code «data» ≡ Accepted command)
-      of (no bad) =
-          absurd (omega (arith, sym (ap (λ (a : After). a .answer .refusal) (request-refused identifier code «data» out bad)) ∙ done))
-      of (yes command asked) = (command, asked)
-
-  -- where it refused with 5, there is none
-  refused-asks : requestWritten identifier code «data» out .answer .refusal ≡ 5 → isAccepted (acceptance code «data») ≡ false
-  refused-asks bad = of (either (acceptance code «data»))
-    where
-      no-row : {w : After} → writers.ByTable false «data» (pointContent identifier code «data») out w → w .answer .refusal ≡ 5 → ⊥
-      no-row (writers.tooLong long) five = omega arith
-      no-row (writers.badAddress fits never) five = omega arith
-      no-row (writers.noRoom fits good short) five = omega arith
-      no-row (writers.frame fits good room) five = omega arith
-
-      of : Either (acceptance code «data») → isAccepted (acceptance code «data») ≡ false
-      of (no none) = none
-      of (yes command asked) =
-          absurd (no-row (point-by-table identifier code «data» out)
-          (ap (λ (a : After). a .answer .refusal) (request-written identifier code «data» out asked) ∙ bad))
-
--- ---- the reader's answer to it
 
 pub record Executes (s : Reader) (identifier code : ℕ) («data» header antenna store out : List ℕ) : Type 0 where
   pub command : Command
@@ -130,23 +87,7 @@ module _ {alone : Bool} {s : Reader} {held : List ℕ} {h : History} (se : Sessi
       judge-refuses (acceptance code «data») refl
       (refused-asks identifier code «data» room (sym (ap (λ (a : After). a .answer .refusal) says) ∙ bad)) short
 
--- ---- and the link's hearing of it
-
--- what the typed writer wrote, put anywhere into any stream, is heard whole
-pub request-heard : (r : Counted) (identifier code : ℕ) («data» out out′ before rest : List ℕ) {s : Receiver} {all : List Told}
-    → after r out′ ≡ requestWritten identifier code «data» out
-    → refusals.answered r .refusal ≡ 0
-    → IsFresh Point s
-    → Hearing (before ++ (take (r .count) out′ ++ rest)) s 0 all
-    → List·Memᴰ (toldAt (length before + r .count) FRAME (identifier ∷ code ∷ «data»)) all
-request-heard r identifier code «data» out out′ before rest says done fr hearing =
-    let asked = written-asks identifier code «data» out (sym (ap (λ (a : After). a .answer .refusal) says) ∙ done) .1 in
-    point-listed r identifier code «data» out out′ before rest (says ∙ sym (request-written identifier code «data» out asked)) done fr hearing
-
-fresh-session : (store : List ℕ) → Session false fresh store begun
-fresh-session store = made fresh store refl
-
--- both together, for a fresh reader: it is heard, and what is heard is executed
+-- for a fresh reader: it is heard by the link, and what is heard is executed
 pub record Asked (identifier code : ℕ) («data» header antenna store out : List ℕ) (place : ℕ) (all : List Told) : Type 0 where
   pub heard : List·Memᴰ (toldAt place FRAME (identifier ∷ code ∷ «data»)) all
   pub executes : Executes fresh identifier code «data» header antenna store out

@@ -14,7 +14,7 @@ use borrow.Rule.Slice.PartMut.{putMid, midOf}
 use Rattle.ground.specs.declared.refusal.Refusal.the-variants.{NoRoom}
 use Rattle.ground.specs.declared.laying.Placed.{Placed}
 use Rattle.ground.specs.Refusals.{Keeps}
-use Rattle.ground.specs.Laying.{laid, Ended, ended, unplaced, placed, put}
+use Rattle.ground.specs.Laying.{laid, onto, Ended, ended, unplaced, placed, put}
 use Rattle.ground.proofs.Laws.Choice.{cond-elim}
 
 -- nothing laid is nothing changed
@@ -51,7 +51,7 @@ laid-more l at x y h =
     ∙ simp (append-assoc, length-append, add-assoc)
 
 -- what is laid at the front stands before what was behind it
-pub laid-front : (l x : List ℕ) → laid l 0 x ≡ x ++ drop (length x) l
+pub laid-front : (l x : List ℕ) → laid l 0 x ≡ onto x l
 unfolding laid
 laid-front l x = rw zero-add
 
@@ -141,6 +141,14 @@ placed-more x y out at begins = placed-is (x ++ y) out at (omega (arith, length-
 
 pub take-placed : (bytes out : List ℕ) → take (placed bytes out 0 .end) (placed bytes out 0 .out) ≡ bytes
 take-placed bytes out = rw (zero-add (length bytes)) (take-front out bytes)
+
+-- bytes put to the front of a buffer: where there is room for them, what stands behind them stays
+pub put-onto : {e : Ended} (bytes buffer : List ℕ) → e ≡ put bytes buffer 0 → length bytes ≤ length buffer → e .out ≡ onto bytes buffer
+put-onto bytes buffer says fits = put-laid bytes buffer 0 says (omega arith) ∙ laid-front buffer bytes
+
+-- in a buffer of their length they are all there is
+pub put-whole : {e : Ended} (bytes buffer : List ℕ) → e ≡ put bytes buffer 0 → length bytes ≡ length buffer → e .out ≡ bytes
+put-whole bytes buffer says same = put-laid bytes buffer 0 says (omega arith) ∙ laid-whole buffer bytes (omega arith)
 
 -- ---- one part of a text behind the other
 

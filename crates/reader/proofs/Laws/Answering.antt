@@ -1,18 +1,21 @@
 -- What a call of the reader answers, and its refusals.
 -- Assumes nothing.
-use mathlib.Core.Path.{_≡_, sym, ap, _∙_}
+use mathlib.Core.Path.{_≡_, refl, sym, ap, _∙_}
 use mathlib.Core.Bool.{Bool, true, false, _||_}
 use mathlib.Core.List.{List, _∷_}
 use Prim.Native.Nat.{ℕ, _≤_, _<_}
 use native.Mathlib.Omega.{arith}
-use lib.Dec.{ltb}
-use lib.ListN.{length, getD, drop}
+use lib.Dec.{eqb, ltb}
+use lib.ListN.{length}
 use borrow.Author.Tests.{ltb-true, ltb-false, lt-ltb, le-ltb, le-leb}
+use Rattle.ground.specs.declared.refusal.Refusal.{Refusal}
 use Rattle.ground.specs.declared.refusal.Refusal.the-variants.{NoRoom, TooLong, BadState, BadRequest}
+use Rattle.ground.specs.Refusals.{number}
 use Rattle.ground.proofs.Laws.Choice.{cond-elim, or-none, by-test}
 use Rattle.station.specs.Events.{Name}
 use Rattle.link.specs.Limits.{mostData}
 use Rattle.request.specs.Limits.{mostAntenna}
+use Rattle.request.specs.Replies.{identifierOf, commandOf, dataOf}
 use Rattle.reader.specs.declared.memory.Memory.the-variants as Memory
 use Rattle.reader.specs.declared.memory.Repeat.{Repeat}
 use Rattle.reader.specs.declared.reader.Reader.{Reader}
@@ -27,20 +30,13 @@ unfolding poweredOn
 powers-on s good = rw good
 
 -- steps 3 to 6, by what the memory says
-module _ (s : Reader) (header antenna store out content : List ℕ) where
-  abbrev identifier : ℕ
-  identifier = getD content 0 0
-
-  abbrev code : ℕ
-  code = getD content 1 0
-
-  abbrev «data» : List ℕ
-  «data» = drop 2 content
-
-  pub framed-by : (k : Repeat) → find (s .memory) identifier code ≡ k
-      → framed s header antenna store out content ≡ recalled s header antenna store out identifier code «data» k
-  unfolding framed
-  framed-by k found = ap (recalled s header antenna store out identifier code «data») found
+pub framed-by : {k : Repeat} (s : Reader) (header antenna store out content : List ℕ)
+    → find (s .memory) (identifierOf content) (commandOf content) ≡ k
+    → framed s header antenna store out content
+    ≡ recalled s header antenna store out (identifierOf content) (commandOf content) (dataOf content) k
+unfolding framed
+framed-by s header antenna store out content found =
+    ap (recalled s header antenna store out (identifierOf content) (commandOf content) (dataOf content)) found
 
 -- an identifier, a command and data within the limit are a content that is not refused
 pub front-is : (identifier code : ℕ) («data» : List ℕ) → length «data» ≤ mostData → isFront (identifier ∷ code ∷ «data») ≡ true
@@ -78,7 +74,7 @@ module _ (s : Reader) (event : Name) (content header antenna store out : List �
         heeds few = rw (good, le-ltb (length store) room kept, le-ltb (length out) room long, le-ltb mostAntenna (length antenna) few)
 
     module _ (lent : Lent antenna store out) where
-      pub refuses-request : fits (asking event) content ≡ false
+      refuses-request : fits (asking event) content ≡ false
           → answered s event content header antenna store out ≡ refusing BadRequest s store out
       refuses-request bad = heeds (lent .1) (lent .2) (lent .0) ∙ rw bad
 
@@ -116,3 +112,17 @@ module _ (s : Reader) (event : Name) (content header antenna store out : List �
   table-only (tooLong good kept long over) = sym (refuses-antenna good kept long over)
   table-only (request good lent bad) = sym (refuses-request good lent bad)
   table-only (steps good lent fine) = sym (does-steps good lent fine)
+
+  -- what holds of every refusal, and of the steps, holds of the answer
+  pub row-elim : (P : Answered → Type 0) → ((why : Refusal) → eqb (number why) 0 ≡ false → P (refusing why s store out))
+      → (Lent antenna store out → fits (asking event) content ≡ true → P (stepped s header antenna store out (asking event) content))
+      → P (answered s event content header antenna store out)
+  row-elim P refused does = of by-table
+    where
+      of : {a : Answered} → ByTable s event content header antenna store out a → P a
+      of (state bad) = refused BadState refl
+      of (noStore good short) = refused NoRoom refl
+      of (noOut good kept short) = refused NoRoom refl
+      of (tooLong good kept long over) = refused TooLong refl
+      of (request good lent bad) = refused BadRequest refl
+      of (steps good lent fine) = does lent fine

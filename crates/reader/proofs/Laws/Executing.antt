@@ -1,6 +1,6 @@
 -- What a command that is executed does to the parameters, and that its reply fits a frame.
 -- Assumes nothing.
-use mathlib.Core.Path.{_≡_, refl, ap, _∙_}
+use mathlib.Core.Path.{_≡_, refl}
 use mathlib.Core.Bool.{true}
 use mathlib.Core.List.{List}
 use Prim.Native.Nat.{ℕ, _≤_}
@@ -18,7 +18,7 @@ use Rattle.request.specs.Parameters.{parameterCode, lengthOf, isSpeed}
 use Rattle.request.specs.Cards.{isCode}
 use Rattle.request.specs.Acceptance.{Carries}
 use Rattle.request.specs.Replies.{Reply, dataIn}
-use Rattle.request.proofs.Laws.Parameters.{takes-length, takes-within, lengthOf-most, same-code}
+use Rattle.request.proofs.Laws.Parameters.{takes-length, takes-within, value-length, lengthOf-most, same-code}
 use Rattle.reader.specs.declared.parameters.Parameters.{Parameters}
 use Rattle.reader.specs.Parameters.{valueOf, doneTo}
 use Rattle.reader.specs.Replies.{replyTo}
@@ -50,7 +50,7 @@ module _ (value : Parameter → List ℕ) (sized : (p : Parameter) → length (v
   done-sized «data» Command.Header carried q = sized q
   done-sized «data» (Command.Write p) carried q =
       cond-elim (λ (l : List ℕ). length l ≡ lengthOf q) (eqb (parameterCode p) (parameterCode q))
-      (λ e. takes-length p (drop 1 «data») (carried .1) ∙ ap lengthOf (same-code p q e)) (λ _. sized q)
+      (λ e. value-length (drop 1 «data») (same-code p q e) (carried .1)) (λ _. sized q)
   done-sized «data» (Command.Read p) carried q = sized q
   done-sized «data» (Command.Card card) carried q = sized q
 

@@ -5,7 +5,7 @@ use mathlib.Core.Bool.{Bool, true, false, cond, not, _&&_, true≢false}
 use mathlib.Core.List.{List}
 use mathlib.Core.Option.{Option, none, some}
 use lib.Dec.{eqb}
-use lib.ListN.{length, getD, drop}
+use lib.ListN.{length}
 use borrow.Author.Tests.{eqb-true}
 use Prim.Native.Nat.{ℕ}
 use Rattle.ground.specs.Refusals.{number}
@@ -15,13 +15,14 @@ use Rattle.request.specs.declared.command.Acceptance.{Acceptance}
 use Rattle.request.specs.declared.command.Acceptance.the-variants.{Accepted, Refused}
 use Rattle.request.specs.Limits.{headerLength}
 use Rattle.request.specs.Acceptance.{acceptance, isAccepted}
+use Rattle.request.specs.Replies.{identifierOf, commandOf, dataOf}
 use Rattle.reader.specs.declared.asking.Asking.{Asking}
 use Rattle.reader.specs.declared.asking.Asking.the-variants.{Nothing, Wrong, Right}
 use Rattle.reader.specs.declared.reader.Reader.{Reader}
 use Rattle.reader.specs.Asking.{asking}
-use Rattle.reader.specs.Answering.{Answered, judged, stepped, ByTable, state, noStore, noOut, tooLong, request, steps}
-use Rattle.reader.specs.Sessions.{Executed, History, repeats, judgedNext, next, executes, Kept, Session, made, powered, called, Idle, rests, heeds}
-use Rattle.reader.proofs.Laws.Answering.{by-table}
+use Rattle.reader.specs.Answering.{Answered, judged, stepped, answered}
+use Rattle.reader.specs.Sessions.{Executed, History, repeats, judgedNext, next, executes, Kept, Session, called, Idle, rests, heeds}
+use Rattle.reader.proofs.Laws.Answering.{row-elim}
 use Rattle.reader.proofs.Laws.Agreeing.{memoryOf, Agrees, agrees-lent, recalledAs, judgedAs, framed-told, told-step}
 use Rattle.reader.proofs.Laws.Sessions.{session-agrees}
 
@@ -37,10 +38,10 @@ executes-nothing h content header antenna Nothing idle = refl
 executes-nothing h content header antenna Wrong idle = refl
 executes-nothing h content header antenna Right idle =
     by-test (λ (t : Bool). (not t && isAccepted k) ≡ false → cond t h (judgedNext h content header antenna k) ≡ h)
-    (repeats (h .last) (getD content 0 0) (getD content 1 0)) (λ _ _. refl) (λ _ n. judged-nothing h content header antenna k n) idle
+    (repeats (h .last) (identifierOf content) (commandOf content)) (λ _ _. refl) (λ _ n. judged-nothing h content header antenna k n) idle
   where
     k : Acceptance
-    k = acceptance (getD content 1 0) (drop 2 content)
+    k = acceptance (commandOf content) (dataOf content)
 
 -- change neither the record nor the store
 record Unchanged (s : Reader) (store : List ℕ) (a : Answered) : Type 0 where
@@ -49,11 +50,11 @@ record Unchanged (s : Reader) (store : List ℕ) (a : Answered) : Type 0 where
 
 module _ (s : Reader) (header antenna store out content : List ℕ) where
   judged-keeps : (k : Acceptance) → isAccepted k ≡ false
-      → Unchanged s store (judged s header antenna store out (getD content 0 0) (getD content 1 0) (drop 2 content) k)
+      → Unchanged s store (judged s header antenna store out (identifierOf content) (commandOf content) (dataOf content) k)
   judged-keeps (Refused fault) idle = record { reader = refl; kept = refl }
   judged-keeps (Accepted command) idle = absurd (true≢false idle)
 
-  recalled-keeps : (last : Option Executed) → Unchanged s store (recalledAs s header antenna store out content last)
+  recalled-keeps : (last : Option Executed) → Unchanged s store (recalledAs s store out last)
   recalled-keeps none = record { reader = refl; kept = refl }
   recalled-keeps (some e) = record { reader = refl; kept = refl }
 
@@ -65,23 +66,21 @@ module _ (s : Reader) (header antenna store out content : List ℕ) where
       subst⁻¹ (Unchanged s store) (framed-told s header antenna store out content (h .last) remembered)
       (by-test
       (λ (t : Bool). (not t && isAccepted k) ≡ false
-      → Unchanged s store (cond t (recalledAs s header antenna store out content (h .last)) (judgedAs s header antenna store out content)))
-      (repeats (h .last) (getD content 0 0) (getD content 1 0)) (λ _ _. recalled-keeps (h .last)) (λ _ n. judged-keeps k n) idle)
+      → Unchanged s store (cond t (recalledAs s store out (h .last)) (judgedAs s header antenna store out content)))
+      (repeats (h .last) (identifierOf content) (commandOf content)) (λ _ _. recalled-keeps (h .last)) (λ _ n. judged-keeps k n) idle)
     where
       k : Acceptance
-      k = acceptance (getD content 1 0) (drop 2 content)
+      k = acceptance (commandOf content) (dataOf content)
 
-  row-keeps : {a : Answered} (alone : Bool) (event : Name) (h : History) → Agrees alone s store h → length header ≡ headerLength
-      → (a .refusal ≡ 0 → executes h content (asking event) ≡ false)
-      → ByTable s event content header antenna store out a
-      → Unchanged s store a
-  row-keeps alone event h a whole idle (state bad) = record { reader = refl; kept = refl }
-  row-keeps alone event h a whole idle (noStore good short) = record { reader = refl; kept = refl }
-  row-keeps alone event h a whole idle (noOut good kept short) = record { reader = refl; kept = refl }
-  row-keeps alone event h a whole idle (tooLong good kept long over) = record { reader = refl; kept = refl }
-  row-keeps alone event h a whole idle (request good lent bad) = record { reader = refl; kept = refl }
-  row-keeps alone event h a whole idle (steps good lent fine) =
-      step-keeps (asking event) h (a .memory) (idle (told-step alone s header antenna store out whole lent (asking event) content h a .none))
+  call-keeps : (alone : Bool) (event : Name) (h : History) → Agrees alone s store h → length header ≡ headerLength
+      → (answered s event content header antenna store out .refusal ≡ 0 → executes h content (asking event) ≡ false)
+      → Unchanged s store (answered s event content header antenna store out)
+  call-keeps alone event h a whole =
+      row-elim s event content header antenna store out
+      (λ (a : Answered). (a .refusal ≡ 0 → executes h content (asking event) ≡ false) → Unchanged s store a)
+      (λ _ _ _. record { reader = refl; kept = refl })
+      (λ lent _ idle. step-keeps (asking event) h (a .memory)
+      (idle (told-step alone s header antenna store out whole lent (asking event) content h a .none)))
 
 -- so after any sequence of them the reader is the same, the store too if nobody else wrote to it, and the same is told
 pub record Same (alone : Bool) (h : History) (s : Reader) (held : List ℕ) (t : Reader) (kept : List ℕ) : Type 0 where
@@ -101,11 +100,10 @@ pub idle-keeps : {alone : Bool} {s t : Reader} {held kept : List ℕ} {h : Histo
 idle-keeps se rests = record { session = se; reader = refl; store = λ _. refl }
 idle-keeps {alone} {h = h} se (heeds {t} i r event content header antenna store out store′ out′ lent whole idle says) =
     let same = idle-keeps se i in
-    let row = by-table t (named event) content header antenna store out in
     let agrees = agrees-lent false (session-agrees (same .session)) tt in
     let none = ap (λ (a : Answered). a .refusal) says in
     let u = subst⁻¹ (Unchanged t store) says
-    (row-keeps t header antenna store out content false (named event) h agrees whole (λ done. idle (none ∙ done)) row)
+    (call-keeps t header antenna store out content false (named event) h agrees whole (λ done. idle (none ∙ done)))
     in
     let told = told-same (number (r .refusal)) (λ done. executes-nothing h content header antenna (asking (named event)) (idle done)) in
     record {
@@ -114,10 +112,3 @@ idle-keeps {alone} {h = h} se (heeds {t} i r event content header antenna store 
       reader = u .reader ∙ same .reader;
       store = λ single. u .kept ∙ sym (kept-same alone lent single) ∙ same .store single;
     }
-
--- a session in which nobody else wrote to the store is one in which somebody may have
-pub loose : {alone : Bool} {s : Reader} {held : List ℕ} {h : History} → Session alone s held h → Session false s held h
-loose (made r store is) = made r store is
-loose (powered se r says) = powered (loose se) r says
-loose (called se r event content header antenna store out store′ out′ kept whole says) =
-    called (loose se) r event content header antenna store out store′ out′ tt whole says

@@ -1,17 +1,16 @@
 -- Laws of the parameters' values.
 -- Assumes nothing.
 use mathlib.Core.Path.{_≡_, refl}
-use mathlib.Core.Bool.{cond}
 use mathlib.Core.List.{List, [], _∷_}
 use Prim.Native.Nat.{ℕ}
 use native.Mathlib.Omega.{arith}
-use lib.Dec.{eqb}
 use lib.ListN.{length, getD}
 use Rattle.request.specs.declared.parameter.Parameter.{Parameter}
 use Rattle.request.specs.declared.parameter.Parameter.the-variants.{Speed, Settings, Cell}
-use Rattle.request.specs.Parameters.{parameterCode, lengthOf}
+use Rattle.request.specs.Parameters.{lengthOf}
 use Rattle.reader.specs.declared.parameters.Parameters.{Parameters}
 use Rattle.reader.specs.Parameters.{valueOf, withValue}
+use Rattle.reader.specs.Sessions.{written}
 
 -- a value of one byte is that byte
 one-byte : (value : List ℕ) → length value ≡ 1 → getD value 0 0 ∷ [] ≡ value
@@ -21,7 +20,7 @@ one-byte (b ∷ d ∷ more) one = absurd (omega arith)
 
 -- what is written to one parameter is its value, and the others stay
 pub value-written : (ps : Parameters) (p : Parameter) (value : List ℕ) → length value ≡ lengthOf p → (q : Parameter)
-    → valueOf (withValue ps p value) q ≡ cond (eqb (parameterCode p) (parameterCode q)) value (valueOf ps q)
+    → valueOf (withValue ps p value) q ≡ written (valueOf ps) p value q
 value-written ps Speed value whole Speed = one-byte value whole
 value-written ps Speed value whole Settings = refl
 value-written ps Speed value whole Cell = refl

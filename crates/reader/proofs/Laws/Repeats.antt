@@ -2,13 +2,13 @@
 -- bytes that were sent when it was executed.
 -- Assumes nothing.
 use mathlib.Core.Path.{_≡_, refl, sym, ap, subst, _∙_}
-use mathlib.Core.Bool.{true, false, cond}
+use mathlib.Core.Bool.{true, false}
 use mathlib.Core.Option.{some}
 use mathlib.Core.List.{List, _∷_}
 use Prim.Native.Nat.{ℕ, _≤_}
-use lib.Dec.{eqb}
-use lib.ListN.{length, take, drop}
-use lib.Seq.{take-at}
+use lib.ListN.{length, take}
+use lib.Seq.{take-append-seam}
+use Rattle.ground.specs.Laying.{onto}
 use Rattle.station.specs.declared.event.Event.the-variants.{Frame}
 use Rattle.station.specs.Events.{FRAME}
 use Rattle.link.specs.Limits.{mostData}
@@ -22,14 +22,13 @@ use Rattle.reader.specs.declared.asking.Asking.the-variants.{Right}
 use Rattle.reader.specs.declared.buffer.Buffer.the-variants.{Store}
 use Rattle.reader.specs.declared.reader.Reader.{Reader}
 use Rattle.reader.specs.declared.reader.Answer.{Answer}
-use Rattle.reader.specs.Copying.{onto}
 use Rattle.reader.specs.Parameters.{valueOf}
-use Rattle.reader.specs.Replies.{wire, replyTo}
+use Rattle.reader.specs.Replies.{replyImage, replyTo}
 use Rattle.reader.specs.Answering.{Answered, answering, Lent, sending, judged, executed, answered}
 use Rattle.reader.specs.Sending.{sent}
-use Rattle.reader.specs.Sessions.{Executed, wireOf, History, repeats, next, Session, called, Idle}
+use Rattle.reader.specs.Sessions.{Executed, imageOf, History, repeats, next, Session, Idle}
 use Rattle.reader.proofs.Laws.Sending.{sent-out}
-use Rattle.reader.proofs.Laws.Sessions.{session-agrees, session-judges, repeat-stored, repeat-sends}
+use Rattle.reader.proofs.Laws.Sessions.{session-agrees, session-on, session-judges, repeat-stored, repeat-sends}
 use Rattle.reader.proofs.Laws.Idle.{idle-keeps}
 
 -- what a repeat does: no record and no byte changes, and what it sends is what was sent
@@ -58,17 +57,14 @@ module _ {s : Reader} {held store₁ out₁ : List ℕ} {h : History} {command :
       ∙ ap (judged s header antenna store out identifier code «data») asked
 
   abbrev bytes : List ℕ
-  bytes = wire identifier code (replyTo (valueOf (s .parameters)) command header antenna)
+  bytes = replyImage identifier code (replyTo (valueOf (s .parameters)) command header antenna)
 
-  same-bytes : bytes ≡ wireOf e
-  same-bytes = ap (λ (v : Parameter → List ℕ). wire identifier code (replyTo v command header antenna)) (session-agrees se .values)
+  same-bytes : bytes ≡ imageOf e
+  same-bytes = ap (λ (v : Parameter → List ℕ). replyImage identifier code (replyTo v command header antenna)) (session-agrees se .values)
 
   -- so it is the last command executed
   on : Session false (r .reader) store₁ (next h content header antenna Right)
-  on =
-      subst (λ (n : ℕ). Session false (r .reader) store₁ (cond (eqb n 0) (next h content header antenna Right) h))
-      (ap (λ (a : Answered). a .refusal) done)
-      (called se r Frame content header antenna store out store₁ out₁ tt whole says)
+  on = session-on se r Frame content header antenna store out tt whole says (ap (λ (a : Answered). a .refusal) done)
 
   last : next h content header antenna Right .last ≡ some e
   last = rw (new, asked)
@@ -81,10 +77,10 @@ module _ {s : Reader} {held store₁ out₁ : List ℕ} {h : History} {command :
       → Repeated r q t store₁ out₁ kept room store₂ out₂
   executed-repeats {t} {kept} {store₂} {out₂} idle q again device card room short good says′ =
       let same = idle-keeps on idle in
-      let n : length (wireOf e) ≡ r .length = ap length (sym same-bytes) ∙ sym (ap (λ (a : Answered). a .length) done) in
-      let stored : take (length (wireOf e)) kept ≡ wireOf e =
-      ap (take (length (wireOf e))) (same .store refl ∙ ap (λ (a : Answered). a .store) done ∙ ap (λ (l : List ℕ). onto l store) same-bytes)
-      ∙ take-at (wireOf e) (drop (length (wireOf e)) store) (length (wireOf e)) refl
+      let n : length (imageOf e) ≡ r .length = ap length (sym same-bytes) ∙ sym (ap (λ (a : Answered). a .length) done) in
+      let stored : take (length (imageOf e)) kept ≡ imageOf e =
+      ap (take (length (imageOf e))) (same .store refl ∙ ap (λ (a : Answered). a .store) done ∙ ap (λ (l : List ℕ). onto l store) same-bytes)
+      ∙ take-append-seam (imageOf e) _
       in
       let first : sent (r .buffer) (r .length) store₁ out₁ ≡ bytes =
       ap (λ (a : Answered). sent (a .buffer) (a .length) (a .store) (a .out)) done ∙ sent-out bytes (onto bytes store) out

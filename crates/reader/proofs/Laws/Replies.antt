@@ -17,7 +17,7 @@ use Rattle.request.specs.declared.card.Card.{Card}
 use Rattle.request.specs.declared.command.Command.{Command}
 use Rattle.request.specs.declared.command.Command.the-variants as Command
 use Rattle.request.specs.Cards.{isCode}
-use Rattle.request.specs.Replies.{Reply, ACK, NACK, DATA}
+use Rattle.request.specs.Replies.{Reply, ACK, NACK, DATA, noCard}
 use Rattle.reader.specs.Limits.{room}
 use Rattle.reader.specs.Replies.{replyTo, IsAnswer}
 
@@ -42,16 +42,16 @@ module _ (value : Parameter → List ℕ) (header antenna : List ℕ) where
   replies-value p = refl
 
   pub replies-card : (P : Reply → Type 0) (card : Card) → (isCode card (length antenna) ≡ true → P (DATA antenna))
-      → (isCode card (length antenna) ≡ false → P (NACK 6))
+      → (isCode card (length antenna) ≡ false → P (NACK noCard))
       → P (replyTo value (Command.Card card) header antenna)
   unfolding replyTo
   replies-card P card whole none = cond-elim P (isCode card (length antenna)) whole none
 
 -- a command that is executed is answered ACK, NACK 6 or data
-pub executed-answer : (value : Parameter → List ℕ) (command : Command) (device antenna : List ℕ)
-    → IsAnswer (replyTo value command device antenna)
+pub executed-answer : (value : Parameter → List ℕ) (command : Command) (header antenna : List ℕ)
+    → IsAnswer (replyTo value command header antenna)
 unfolding replyTo
-executed-answer value Command.Header device antenna = tt
-executed-answer value (Command.Write p) device antenna = tt
-executed-answer value (Command.Read p) device antenna = tt
-executed-answer value (Command.Card card) device antenna = replies-card value device antenna IsAnswer card (λ _. tt) (λ _. refl)
+executed-answer value Command.Header header antenna = tt
+executed-answer value (Command.Write p) header antenna = tt
+executed-answer value (Command.Read p) header antenna = tt
+executed-answer value (Command.Card card) header antenna = replies-card value header antenna IsAnswer card (λ _. tt) (λ _. refl)

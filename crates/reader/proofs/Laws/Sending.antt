@@ -1,14 +1,14 @@
 -- The part of a buffer that is sent.
 -- Assumes nothing.
-use mathlib.Core.Path.{_≡_, refl}
+use mathlib.Core.Path.{_≡_}
 use mathlib.Core.List.{List, [], _++_}
 use Prim.Native.Nat.{ℕ, _≤_}
 use native.Mathlib.Omega.{arith}
 use lib.ListN.{length, take, drop, length-append}
-use lib.Seq.{take-at}
+use lib.Seq.{take-append-seam}
 use borrow.Author.Tests.{le-ltb}
+use Rattle.ground.specs.Laying.{onto}
 use Rattle.reader.specs.declared.buffer.Buffer.the-variants.{Out, Store}
-use Rattle.reader.specs.Copying.{onto}
 use Rattle.reader.specs.Sending.{sent}
 
 -- nothing of out is nothing
@@ -22,7 +22,7 @@ unfolding sent
 sent-out bytes store out =
     let rest = drop (length bytes) out in
     let long : length bytes ≤ length (bytes ++ rest) = simp length-append (omega arith) in
-    rw (le-ltb (length (bytes ++ rest)) (length bytes) long) (take-at bytes rest (length bytes) refl)
+    rw (le-ltb (length (bytes ++ rest)) (length bytes) long) (take-append-seam bytes rest)
 
 pub sent-store : (n : ℕ) (store out : List ℕ) → n ≤ length store → sent Store n store out ≡ take n store
 unfolding sent

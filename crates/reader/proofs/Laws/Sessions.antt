@@ -1,66 +1,62 @@
 -- Demand 2 for the reader: over any calls in a row, what it sends is what is meant, and a repeat sends what is stored and changes nothing.
 -- Assumes nothing.
-use mathlib.Core.Path.{_≡_, refl, ap, subst, subst⁻¹, _∙_}
-use mathlib.Core.Bool.{Bool, true, false, cond}
+use mathlib.Core.Path.{_≡_, refl, sym, ap, subst, subst⁻¹, _∙_}
+use mathlib.Core.Bool.{Bool, true, false, true≢false}
 use mathlib.Core.List.{List, _∷_}
-use mathlib.Core.Option.{none, some}
+use mathlib.Core.Option.{some}
 use Prim.Native.Nat.{ℕ, _≤_}
 use native.Mathlib.Omega.{arith}
-use lib.Dec.{eqb}
 use lib.ListN.{length, take}
-use borrow.Author.Tests.{eq-eqb}
+use borrow.Author.Tests.{eqb-false, eq-eqb}
 use Rattle.ground.specs.Refusals.{number}
 use Rattle.station.specs.declared.event.Event.{Event}
-use Rattle.station.specs.Events.{Name, FRAME, named}
+use Rattle.station.specs.declared.event.Event.the-variants.{Frame, Check}
+use Rattle.station.specs.Events.{Name, FRAME, CHECK, named}
 use Rattle.link.specs.Limits.{mostData}
+use Rattle.request.specs.declared.command.Acceptance.{Acceptance}
+use Rattle.request.specs.declared.command.Acceptance.the-variants.{Refused}
+use Rattle.request.specs.declared.command.Fault.{Fault}
 use Rattle.request.specs.Limits.{headerLength}
-use Rattle.request.specs.Acceptance.{acceptance}
+use Rattle.request.specs.Acceptance.{acceptance, nackOf}
+use Rattle.request.specs.Replies.{NACK, sign, wrongCheck, identifierOf, commandOf, dataOf}
 use Rattle.reader.specs.declared.asking.Asking.{Asking}
 use Rattle.reader.specs.declared.buffer.Buffer.the-variants.{Store}
 use Rattle.reader.specs.declared.reader.Reader.{Reader}
 use Rattle.reader.specs.declared.reader.Answer.{Answer}
 use Rattle.reader.specs.Asking.{asking}
-use Rattle.reader.specs.Answering.{badState, PoweredOn, Answered, Lent, answering, sending, judged, stepped, fits, answered, ByTable, state, noStore, noOut, tooLong, request, steps}
+use Rattle.reader.specs.Replies.{replyImage}
+use Rattle.reader.specs.Answering.{fresh, badState, PoweredOn, Answered, Lent, answering, sending, judged, stepped, answered}
 use Rattle.reader.specs.Sending.{sent}
-use Rattle.reader.specs.Sessions.{Executed, wireOf, History, begun, forgetting, repeats, next, toSend, isRepeat, Kept, Session, made, powered, called}
-use Rattle.reader.proofs.Laws.Answering.{powers-on, front-is, by-table, does-steps}
+use Rattle.reader.specs.Sessions.{Executed, imageOf, History, begun, forgetting, repeats, next, nextBy, judgedReply, toSend, isRepeat, Kept, Session, made, powered, called}
+use Rattle.reader.proofs.Laws.Answering.{powers-on, front-is, does-steps, row-elim}
 use Rattle.reader.proofs.Laws.Sending.{sent-store}
-use Rattle.reader.proofs.Laws.Agreeing.{memoryOf, Fits, wire-room, framed-told, Agrees, agrees-fresh, agrees-powered, agrees-good, agrees-lent, told-step}
+use Rattle.reader.proofs.Laws.Agreeing.{memoryOf, Fits, image-room, framed-told, Agrees, agrees-fresh, agrees-powered, agrees-good, agrees-lent, told-step}
 
 -- ---- every call of a session
 
 -- what a call leaves and sends
 record Call (alone : Bool) (h : History) (content header antenna : List ℕ) (asked : Asking) (a : Answered) : Type 0 where
-  agrees : Agrees alone (a .reader) (a .store) (cond (eqb (a .refusal) 0) (next h content header antenna asked) h)
+  agrees : Agrees alone (a .reader) (a .store) (nextBy h content header antenna asked (a .refusal))
   sends : a .refusal ≡ 0
       → (isRepeat h content asked ≡ true → alone ≡ true)
       → sent (a .buffer) (a .length) (a .store) (a .out) ≡ toSend h content header antenna asked
 
 module _ (alone : Bool) (s : Reader) (h : History) (event : Name) (content header antenna store out : List ℕ) where
-  call-row : {a : Answered} → Agrees alone s store h → length header ≡ headerLength → ByTable s event content header antenna store out a
-      → Call alone h content header antenna (asking event) a
-  call-row a whole (state bad) = record { agrees = a; sends = λ done. absurd (omega arith) }
-  call-row a whole (noStore good short) = record { agrees = a; sends = λ done. absurd (omega arith) }
-  call-row a whole (noOut good kept short) = record { agrees = a; sends = λ done. absurd (omega arith) }
-  call-row a whole (tooLong good kept long over) = record { agrees = a; sends = λ done. absurd (omega arith) }
-  call-row a whole (request good lent bad) = record { agrees = a; sends = λ done. absurd (omega arith) }
-  call-row a whole (steps good lent fine) =
-      let t = told-step alone s header antenna store out whole lent (asking event) content h a in
-      let a′ = stepped s header antenna store out (asking event) content in
-      record {
-        agrees =
-            subst⁻¹ (λ (n : ℕ). Agrees alone (a′ .reader) (a′ .store) (cond (eqb n 0) (next h content header antenna (asking event)) h))
-            (t .none) (t .agrees);
-        sends = λ _ own. t .sends own;
-      }
-
-  -- from the call's statement
   call-told : {held store′ out′ : List ℕ} (r : Answer) → Agrees alone s held h → Kept alone held store → length header ≡ headerLength
       → answering r store′ out′ ≡ answered s event content header antenna store out
       → Call alone h content header antenna (asking event) (answering r store′ out′)
   call-told r a kept whole says =
+      let lent = agrees-lent alone a kept in
       subst⁻¹ (Call alone h content header antenna (asking event)) says
-      (call-row (agrees-lent alone a kept) whole (by-table s event content header antenna store out))
+      (row-elim s event content header antenna store out (Call alone h content header antenna (asking event))
+      (λ why bad. record { agrees = rw bad lent; sends = λ done. absurd (eqb-false (number why) 0 bad done) })
+      (λ good fine. let a′ = stepped s header antenna store out (asking event) content in
+      let t = told-step alone s header antenna store out whole good (asking event) content h lent in
+      record {
+        agrees = subst⁻¹ (λ (n : ℕ). Agrees alone (a′ .reader) (a′ .store) (nextBy h content header antenna (asking event) n)) (t .none)
+            (t .agrees);
+        sends = λ _ own. t .sends own;
+      }))
 
 pub session-agrees : {alone : Bool} {s : Reader} {held : List ℕ} {h : History} → Session alone s held h → Agrees alone s held h
 session-agrees {alone} (made r store is) = subst⁻¹ (λ (s : Reader). Agrees alone s store begun) is (agrees-fresh alone store)
@@ -69,6 +65,17 @@ session-agrees {alone} {held = held} (powered {s} {h = h} se r says) =
     subst⁻¹ (λ (p : PoweredOn). Agrees alone (p .reader) held (forgetting h)) (says ∙ powers-on s (agrees-good a)) (agrees-powered a)
 session-agrees {alone} (called {s} {h = h} se r event content header antenna store out store′ out′ kept whole says) =
     call-told alone s h (named event) content header antenna store out r (session-agrees se) kept whole says .agrees
+
+-- a session in which nobody else wrote to the store is one in which somebody may have
+pub loose : {alone : Bool} {s : Reader} {held : List ℕ} {h : History} → Session alone s held h → Session false s held h
+loose (made r store is) = made r store is
+loose (powered se r says) = powered (loose se) r says
+loose (called se r event content header antenna store out store′ out′ kept whole says) =
+    called (loose se) r event content header antenna store out store′ out′ tt whole says
+
+-- one begins with a fresh reader
+pub fresh-session : (store : List ℕ) → Session false fresh store begun
+fresh-session store = made fresh store refl
 
 -- speed is 3..10 and the remembered length at most 130 in every record that is reached: no call finds a bad state
 pub session-good : {alone : Bool} {s : Reader} {held : List ℕ} {h : History} → Session alone s held h → badState s ≡ false
@@ -85,6 +92,51 @@ module _ {alone : Bool} {s : Reader} {held : List ℕ} {h : History} (se : Sessi
       → sent (r .buffer) (r .length) store′ out′ ≡ toSend h content header antenna (asking (named event))
   session-sends r event content header antenna store out kept whole says done own =
       call-told alone s h (named event) content header antenna store out r (session-agrees se) kept whole says .sends done own
+
+  -- to a CHECK NACK 1
+  pub check-nacked : {store′ out′ : List ℕ} (r : Answer) (content header antenna store out : List ℕ)
+      → Kept alone held store
+      → length header ≡ headerLength
+      → answering r store′ out′ ≡ answered s CHECK content header antenna store out
+      → number (r .refusal) ≡ 0
+      → sent (r .buffer) (r .length) store′ out′ ≡ replyImage (identifierOf content) sign (NACK wrongCheck)
+  check-nacked r content header antenna store out kept whole says done =
+      session-sends r Check content header antenna store out kept whole says done (λ again. absurd (true≢false (sym again)))
+
+  -- to a FRAME that repeats nothing the reply to what it asks for, and NACK 2 or 3 where it is not accepted
+  pub session-replies : {store′ out′ : List ℕ} {k : Acceptance} (r : Answer) (content header antenna store out : List ℕ)
+      → Kept alone held store
+      → length header ≡ headerLength
+      → answering r store′ out′ ≡ answered s FRAME content header antenna store out
+      → number (r .refusal) ≡ 0
+      → repeats (h .last) (identifierOf content) (commandOf content) ≡ false
+      → acceptance (commandOf content) (dataOf content) ≡ k
+      → sent (r .buffer) (r .length) store′ out′
+      ≡ replyImage (identifierOf content) (commandOf content) (judgedReply h content header antenna k)
+  session-replies r content header antenna store out kept whole says done new asked =
+      session-sends r Frame content header antenna store out kept whole says done (λ again. absurd (true≢false (sym again ∙ new)))
+      ∙ rw (new, asked)
+
+  pub frame-nacked : {store′ out′ : List ℕ} {fault : Fault} (r : Answer) (content header antenna store out : List ℕ)
+      → Kept alone held store
+      → length header ≡ headerLength
+      → answering r store′ out′ ≡ answered s FRAME content header antenna store out
+      → number (r .refusal) ≡ 0
+      → repeats (h .last) (identifierOf content) (commandOf content) ≡ false
+      → acceptance (commandOf content) (dataOf content) ≡ Refused fault
+      → sent (r .buffer) (r .length) store′ out′ ≡ replyImage (identifierOf content) sign (NACK (nackOf fault))
+  frame-nacked = session-replies
+
+  -- a call that was not refused goes on with what is told next
+  pub session-on : {store′ out′ : List ℕ} (r : Answer) (event : Event) (content header antenna store out : List ℕ)
+      → Kept alone held store
+      → length header ≡ headerLength
+      → answering r store′ out′ ≡ answered s (named event) content header antenna store out
+      → number (r .refusal) ≡ 0
+      → Session alone (r .reader) store′ (next h content header antenna (asking (named event)))
+  session-on {store′} {out′} r event content header antenna store out kept whole says done =
+      subst (λ (n : ℕ). Session alone (r .reader) store′ (nextBy h content header antenna (asking (named event)) n)) done
+      (called se r event content header antenna store out store′ out′ kept whole says)
 
   -- a frame that repeats nothing is judged by its code and data
   pub session-judges : (identifier code : ℕ) («data» header antenna store out : List ℕ) → repeats (h .last) identifier code ≡ false
@@ -105,7 +157,7 @@ module _ {alone : Bool} {s : Reader} {held : List ℕ} {h : History} (se : Sessi
       → length «data» ≤ mostData
       → Lent antenna store out
       → answering r store′ out′ ≡ answered s FRAME (e .identifier ∷ e .code ∷ «data») header antenna store out
-      → answering r store′ out′ ≡ sending s Store (length (wireOf e)) store out
+      → answering r store′ out′ ≡ sending s Store (length (imageOf e)) store out
   repeat-stored r e «data» header antenna store out executed short lent says =
       let a = session-agrees se in
       let content = e .identifier ∷ e .code ∷ «data» in
@@ -116,7 +168,7 @@ module _ {alone : Bool} {s : Reader} {held : List ℕ} {h : History} (se : Sessi
 
   -- those bytes are all there
   pub repeat-sends : (e : Executed) (antenna store out : List ℕ) → h .last ≡ some e → Lent antenna store out
-      → sent Store (length (wireOf e)) store out ≡ take (length (wireOf e)) store
+      → sent Store (length (imageOf e)) store out ≡ take (length (imageOf e)) store
   repeat-sends e antenna store out executed lent =
       let fits = subst Fits executed (session-agrees se .fits) in
-      sent-store (length (wireOf e)) store out (omega (arith, wire-room e fits, lent .1))
+      sent-store (length (imageOf e)) store out (omega (arith, image-room e fits, lent .1))

@@ -6,7 +6,7 @@ use mathlib.Core.List.{List}
 use Prim.Native.Nat.{ℕ}
 use lib.ListN.{length}
 use Rattle.ground.specs.declared.refusal.Refusal.{Refusal}
-use Rattle.ground.specs.declared.refusal.Refusal.the-variants.{None, NoRoom, TooLong, BadState, BadRequest}
+use Rattle.ground.specs.declared.refusal.Refusal.the-variants.{None}
 use Rattle.ground.specs.Refusals.{number}
 use Rattle.station.specs.declared.event.Event.{Event}
 use Rattle.station.specs.Events.{Name, named}
@@ -16,12 +16,11 @@ use Rattle.reader.specs.declared.reader.Reader.{Reader}
 use Rattle.reader.specs.declared.reader.Powered.{Powered}
 use Rattle.reader.specs.declared.reader.Answer.{Answer}
 use Rattle.reader.specs.Asking.{asking}
-use Rattle.reader.specs.Answering.{being, powering, poweredOn, Answered, answering, answerOf, Lent, stepped, fits, answered, ByTable, state, noStore, noOut, tooLong, request, steps}
+use Rattle.reader.specs.Answering.{being, powering, poweredOn, Answered, answering, answerOf, Lent, stepped, fits, answered}
 use Rattle.reader.specs.Sessions.{History, Session}
-use Rattle.reader.proofs.Laws.Answering.{powers-on, by-table, does-steps}
+use Rattle.reader.proofs.Laws.Answering.{powers-on, does-steps, row-elim}
 use Rattle.reader.proofs.Laws.Agreeing.{agrees-good, agrees-lent, told-step}
-use Rattle.reader.proofs.Laws.Sessions.{session-agrees}
-use Rattle.reader.proofs.Laws.Idle.{loose}
+use Rattle.reader.proofs.Laws.Sessions.{session-agrees, loose}
 
 -- a result, and what it left
 pub record Result (a : Answered) : Type 0 where
@@ -46,15 +45,9 @@ module _ {alone : Bool} {s : Reader} {held : List ℕ} {h : History} (se : Sessi
       told-step false s header antenna store out whole lent (asking event) content h (agrees-lent false (session-agrees (loose se)) tt) .none
 
   pub call-some : (event : Event) → Result (answered s (named event) content header antenna store out)
-  call-some event = of (by-table s (named event) content header antenna store out)
-    where
-      of : {a : Answered} → ByTable s (named event) content header antenna store out a → Result a
-      of (state bad) = result _ BadState refl
-      of (noStore good short) = result _ NoRoom refl
-      of (noOut good kept short) = result _ NoRoom refl
-      of (tooLong good kept long over) = result _ TooLong refl
-      of (request good lent bad) = result _ BadRequest refl
-      of (steps good lent fine) = result _ None (sym (steps-fine (named event) lent))
+  call-some event =
+      row-elim s (named event) content header antenna store out Result (λ why _. result _ why refl)
+      (λ lent _. result _ None (sym (steps-fine (named event) lent)))
 
   -- with good buffers and a content that fits, no call of a session is refused
   pub call-fine : (event : Event) → Lent antenna store out → fits (asking (named event)) content ≡ true

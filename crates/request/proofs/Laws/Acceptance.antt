@@ -3,6 +3,7 @@
 use mathlib.Core.Path.{_≡_, refl, sym, ap, subst, subst⁻¹, _∙_}
 use mathlib.Core.Bool.{Bool, true, false, cond}
 use mathlib.Core.List.{List, [], _∷_}
+use mathlib.Mathlib.Logic.Function.Defs.{LeftInverse·injective}
 use Prim.Native.Nat.{ℕ, _≤_}
 use native.Mathlib.Omega.{arith}
 use lib.Dec.{eqb}
@@ -22,7 +23,7 @@ use Rattle.request.specs.declared.command.Acceptance.{Acceptance}
 use Rattle.request.specs.declared.command.Acceptance.the-variants.{Accepted, Refused}
 use Rattle.request.specs.declared.command.Fault.the-variants.{UnknownCode, BadData}
 use Rattle.request.specs.Parameters.{parameterCode, parameterWith, takes}
-use Rattle.request.specs.Acceptance.{bare, writingTo, writing, readingFrom, reading, isKnown, acceptance, commandCode, Carries, Accepts, header, write, read, marin, hid, motorola}
+use Rattle.request.specs.Acceptance.{bare, writingTo, writing, readingFrom, reading, isKnown, acceptance, commandCode, Judgement, byCode, byCodes, byNumber, judgement, Carries, Accepts, header, write, read, marin, hid, motorola}
 use Rattle.request.proofs.Laws.Parameters.{takes-length, lengthOf-most}
 
 -- ---- data as the code reads it: by its length and its places
@@ -80,7 +81,7 @@ parameter-named code =
     (λ _. cond-elim (Named code) (eqb code 0x05) (eqb-true code 0x05)
     (λ _. cond-elim (Named code) (eqb code 0x80) (eqb-true code 0x80) (λ _. tt)))
 
-pub parameter-with : (p : Parameter) → parameterWith (parameterCode p) ≡ Known p
+parameter-with : (p : Parameter) → parameterWith (parameterCode p) ≡ Known p
 unfolding parameterWith
 parameter-with Speed = refl
 parameter-with Settings = refl
@@ -179,3 +180,37 @@ accepted-code (read p) = refl
 accepted-code marin = refl
 accepted-code hid = refl
 accepted-code motorola = refl
+
+-- ---- an answer in the paper's numbers is one case of the enum
+
+abbrev parameterOf : ℕ → Parameter
+parameterOf code = cond (eqb code (parameterCode Speed)) Speed (cond (eqb code (parameterCode Settings)) Settings Cell)
+
+abbrev caseOf : Judgement → Acceptance
+caseOf (byCode code) =
+    cond (eqb code 0x00) (Accepted Header)
+    (cond (eqb code 0x10) (Accepted (Card Marin)) (cond (eqb code 0x14) (Accepted (Card Hid)) (Accepted (Card Motorola))))
+caseOf (byCodes code p) = cond (eqb code 0x01) (Accepted (Write (parameterOf p))) (Accepted (Read (parameterOf p)))
+caseOf (byNumber n) = cond (eqb n 2) (Refused UnknownCode) (Refused BadData)
+
+case-judged : (a : Acceptance) → caseOf (judgement a) ≡ a
+case-judged (Accepted Header) = refl
+case-judged (Accepted (Write Speed)) = refl
+case-judged (Accepted (Write Settings)) = refl
+case-judged (Accepted (Write Cell)) = refl
+case-judged (Accepted (Read Speed)) = refl
+case-judged (Accepted (Read Settings)) = refl
+case-judged (Accepted (Read Cell)) = refl
+case-judged (Accepted (Card Marin)) = refl
+case-judged (Accepted (Card Hid)) = refl
+case-judged (Accepted (Card Motorola)) = refl
+case-judged (Refused UnknownCode) = refl
+case-judged (Refused BadData) = refl
+
+pub judgement-injective : (a b : Acceptance) → judgement a ≡ judgement b → a ≡ b
+judgement-injective = LeftInverse·injective caseOf judgement case-judged
+
+-- so what the call answered is what is accepted
+pub judged-as : {r k : Acceptance} (code : ℕ) («data» : List ℕ) → judgement r ≡ judgement (acceptance code «data») → r ≡ k
+    → acceptance code «data» ≡ k
+judged-as {r} code «data» says told = sym (judgement-injective r (acceptance code «data») says) ∙ told

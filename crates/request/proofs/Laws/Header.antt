@@ -8,7 +8,7 @@ use native.Mathlib.Omega.{arith}
 use lib.ListN.{length, set, length-append}
 use Rattle.ground.specs.Laying.{laid}
 use Rattle.ground.proofs.Laws.Laying.{laid-behind, laid-whole, set-behind, set-two}
-use Rattle.request.specs.Limits.{headerLength}
+use Rattle.request.specs.Limits.{headerLength, nameLength}
 use Rattle.request.specs.Header.{lowFirst, header}
 
 pub set-four : (l : List ℕ) (at a b c d : ℕ) → at + 4 ≤ length l
@@ -23,10 +23,10 @@ behind : {m m′ : List ℕ} (l x y : List ℕ) (at : ℕ) → m ≡ laid l 0 x 
 behind l x y at stood here lays = lays ∙ ap₂ (λ (m : List ℕ) (n : ℕ). laid m n y) stood (sym here) ∙ laid-behind l x y
 
 -- a name and five numbers, one behind the other, are the header
-pub header-laid : {a b c d e f : List ℕ} (bytes name : List ℕ) (kind version protocol serial flags : ℕ) → length name ≡ 20
+pub header-laid : {a b c d e f : List ℕ} (bytes name : List ℕ) (kind version protocol serial flags : ℕ) → length name ≡ nameLength
     → length bytes ≡ headerLength
     → a ≡ laid bytes 0 name
-    → b ≡ laid a 20 (lowFirst kind)
+    → b ≡ laid a nameLength (lowFirst kind)
     → c ≡ laid b 24 (lowFirst version)
     → d ≡ laid c 28 (lowFirst protocol)
     → e ≡ laid d 32 (lowFirst serial)
@@ -47,13 +47,13 @@ header-laid bytes name kind version protocol serial flags long sized named first
     behind bytes withSerial (lowFirst flags) 36
     (behind bytes withProtocol (lowFirst serial) 32 (behind bytes withVersion (lowFirst protocol) 28
     (behind bytes withKind (lowFirst version) 24
-    (behind bytes name (lowFirst kind) 20 named long first) k second) v third)
+    (behind bytes name (lowFirst kind) nameLength named long first) k second) v third)
     p fourth) s fifth
     ∙ laid-whole bytes whole (omega arith)
     ∙ simp append-assoc
 
 -- it has 40 bytes
-pub length-header : (name : List ℕ) (kind version protocol serial flags : ℕ) → length name ≡ 20
+pub length-header : (name : List ℕ) (kind version protocol serial flags : ℕ) → length name ≡ nameLength
     → length (header name kind version protocol serial flags) ≡ headerLength
 unfolding header
 length-header name kind version protocol serial flags long = simp length-append (omega arith)

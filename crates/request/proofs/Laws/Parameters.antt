@@ -26,7 +26,8 @@ lengthOf-most Cell = omega arith
 -- a value that a parameter takes has its length, and for the speed is 3..10
 pub takes-length : (p : Parameter) (value : List ℕ) → takes p value ≡ true → length value ≡ lengthOf p
 unfolding takes
-takes-length p value taken = eqb-true (length value) (lengthOf p) (and-eq-true-iff (eqb (length value) (lengthOf p)) (within p value) .0 taken .0)
+takes-length p value taken =
+    eqb-true (length value) (lengthOf p) (and-eq-true-iff (eqb (length value) (lengthOf p)) (within p value) .0 taken .0)
 
 pub takes-within : (p : Parameter) (value : List ℕ) → takes p value ≡ true → within p value ≡ true
 unfolding takes

@@ -4,14 +4,16 @@ use mathlib.Core.Path.{_≡_, ap, _∙_}
 use mathlib.Core.Bool.{true, and-eq-true-iff}
 use mathlib.Core.List.{List}
 use Prim.Native.Nat.{ℕ, _≤_}
-use lib.ListN.{length, getD, take, drop}
+use lib.ListN.{length, take}
 use borrow.Author.Tests.{leb-true}
 use Rattle.ground.specs.declared.refusal.Refusal.the-variants.{None}
+use Rattle.ground.specs.Laying.{onto}
 use Rattle.wire.specs.Image.{image}
 use Rattle.wire.specs.Writing.{After}
 use Rattle.request.specs.declared.command.Command.{Command}
 use Rattle.request.specs.declared.command.Acceptance.{Acceptance}
 use Rattle.request.specs.Acceptance.{acceptance}
+use Rattle.request.specs.Replies.{identifierOf, commandOf, dataOf}
 use Rattle.reader.specs.declared.buffer.Buffer.the-variants.{Out}
 use Rattle.reader.specs.declared.memory.Memory.the-variants.{Last}
 use Rattle.reader.specs.declared.memory.Repeat.the-variants.{New}
@@ -19,18 +21,17 @@ use Rattle.reader.specs.declared.parameters.Parameters.{Parameters}
 use Rattle.reader.specs.declared.reader.Reader.{Reader}
 use Rattle.reader.specs.declared.reader.Answer.{Answer}
 use Rattle.reader.specs.Limits.{leastFront}
-use Rattle.reader.specs.Copying.{onto}
 use Rattle.reader.specs.Parameters.{valueOf, doneTo}
 use Rattle.reader.specs.Memory.{find}
 use Rattle.reader.specs.Replies.{replyContent, replyTo}
 use Rattle.reader.specs.Answering.{being, answering, answerOf, sending, executed, judged, framed, isFront}
 use Rattle.reader.proofs.Laws.Answering.{framed-by}
-use Rattle.steps.specs.Replies.{Puts}
+use Rattle.steps.specs.Replies.{Fills}
 use Rattle.steps.proofs.Laws.Replies.{puts-front}
 
 -- a frame put to out, and nothing else
 pub put-answers : {r : Answer} {n : ℕ} {out′ : List ℕ} (s : Reader) (content store out : List ℕ) → r ≡ answerOf None s Out n
-    → Puts n out′ content out
+    → Fills n out′ content out
     → answering r store out′ ≡ sending s Out (length (image content)) store (onto (image content) out)
 put-answers {out′} s content store out told put =
     ap (λ (r : Answer). answering r store out′) told ∙ ap (λ (a : After). sending s Out (a .answer .count) store (a .out)) (put .0)
@@ -41,7 +42,7 @@ module _ (s : Reader) (header antenna store out : List ℕ) (identifier code : �
       → r ≡ answerOf None (being ps (Last identifier code n)) Out n
       → ps ≡ doneTo (s .parameters) command «data»
       → store′ ≡ onto (take n out′) store
-      → Puts n out′ (replyContent identifier code (replyTo (valueOf (s .parameters)) command header antenna)) out
+      → Fills n out′ (replyContent identifier code (replyTo (valueOf (s .parameters)) command header antenna)) out
       → answering r store′ out′ ≡ executed s header antenna store out identifier code «data» command
   execute-answers {r} {ps} {n} {store′} {out′} told done kept put =
       let content = replyContent identifier code (replyTo (valueOf (s .parameters)) command header antenna) in
@@ -54,13 +55,14 @@ module _ (s : Reader) (header antenna store out : List ℕ) (identifier code : �
       (a .out)) (put .0)
 
 -- a frame that repeats nothing, by its acceptance: steps 4 to 6
-pub framed-new : (s : Reader) (header antenna store out content : List ℕ) (a : Acceptance)
-    → find (s .memory) (getD content 0 0) (getD content 1 0) ≡ New
-    → acceptance (getD content 1 0) (drop 2 content) ≡ a
-    → framed s header antenna store out content ≡ judged s header antenna store out (getD content 0 0) (getD content 1 0) (drop 2 content) a
-framed-new s header antenna store out content a found asked =
-    framed-by s header antenna store out content New found
-    ∙ ap (judged s header antenna store out (getD content 0 0) (getD content 1 0) (drop 2 content)) asked
+pub framed-new : {a : Acceptance} (s : Reader) (header antenna store out content : List ℕ)
+    → find (s .memory) (identifierOf content) (commandOf content) ≡ New
+    → acceptance (commandOf content) (dataOf content) ≡ a
+    → framed s header antenna store out content
+    ≡ judged s header antenna store out (identifierOf content) (commandOf content) (dataOf content) a
+framed-new s header antenna store out content found asked =
+    framed-by s header antenna store out content found
+    ∙ ap (judged s header antenna store out (identifierOf content) (commandOf content) (dataOf content)) asked
 
 -- a FRAME or CHECK that is not refused has an identifier and a command
 pub front-least : (content : List ℕ) → isFront content ≡ true → leastFront ≤ length content

@@ -1,12 +1,12 @@
 -- A reply's frame is written whole: it fits the buffers that a reader is lent.
 -- Assumes nothing.
-use mathlib.Core.Path.{_≡_, refl, ap, _∙_}
+use mathlib.Core.Path.{_≡_, ap, _∙_}
 use mathlib.Core.Bool.{Bool, cond}
 use mathlib.Core.List.{List}
 use Prim.Native.Nat.{ℕ, _≤_}
 use native.Mathlib.Omega.{arith}
 use lib.ListN.{length, take, drop, length-append}
-use lib.Seq.{take-at}
+use lib.Seq.{take-append-seam}
 use Rattle.ground.specs.declared.refusal.Counted.{Counted}
 use Rattle.ground.specs.Refusals.{counted}
 use Rattle.wire.specs.Image.{image}
@@ -20,16 +20,16 @@ use Rattle.request.specs.declared.card.Card.{Card}
 use Rattle.request.specs.declared.command.Command.{Command}
 use Rattle.request.specs.declared.command.Command.the-variants as Command
 use Rattle.request.specs.Cards.{isCode}
-use Rattle.request.specs.Replies.{NACK, DATA}
+use Rattle.request.specs.Replies.{NACK, DATA, noCard}
 use Rattle.reader.specs.Limits.{room}
 use Rattle.reader.specs.Replies.{replyContent, replyTo}
 use Rattle.reader.proofs.Laws.Replies.{point-room}
-use Rattle.steps.specs.Replies.{Puts}
+use Rattle.steps.specs.Replies.{Fills}
 
 -- the writer refuses no frame with data within the limit
 pub reply-put : (r : Counted) (identifier command : ℕ) («data» out : List ℕ) {out′ : List ℕ} → length «data» ≤ mostData → room ≤ length out
     → after r out′ ≡ pointWritten identifier command «data» out
-    → Puts (r .count) out′ (pointContent identifier command «data») out
+    → Fills (r .count) out′ (pointContent identifier command «data») out
 reply-put r identifier command «data» out fits long says =
     let within = point-room identifier command «data» fits in
     let written = says ∙ point-writes identifier command «data» out fits (omega arith) in (
@@ -38,13 +38,13 @@ reply-put r identifier command «data» out fits long says =
     )
 
 -- what was put stands in front
-pub puts-front : {n : ℕ} {out′ : List ℕ} (content out : List ℕ) → Puts n out′ content out → take n out′ ≡ image content
+pub puts-front : {n : ℕ} {out′ : List ℕ} (content out : List ℕ) → Fills n out′ content out → take n out′ ≡ image content
 puts-front content out (e, within) =
     ap (λ (a : After). take (a .answer .count) (a .out)) e
-    ∙ take-at (image content) (drop (length (image content)) out) (length (image content)) refl
+    ∙ take-append-seam (image content) _
 
--- so much of out is there to be copied, and the store has room for it
-pub puts-within : {n : ℕ} {out′ : List ℕ} (content out : List ℕ) → Puts n out′ content out → n ≤ length out′
+-- so much of out is there to be copied
+pub puts-within : {n : ℕ} {out′ : List ℕ} (content out : List ℕ) → Fills n out′ content out → n ≤ length out′
 puts-within content out put =
     let n = ap (λ (a : After). a .answer .count) (put .0) in
     let long = ap (λ (a : After). length (a .out)) (put .0) in
@@ -55,7 +55,7 @@ pub puts-card : {n : ℕ} {out′ : List ℕ} {command : Command} {card : Card} 
     (header antenna out : List ℕ)
     → command ≡ Command.Card card
     → isCode card (length antenna) ≡ t
-    → Puts n out′ (replyContent identifier code (cond t (DATA antenna) (NACK 6))) out
-    → Puts n out′ (replyContent identifier code (replyTo value command header antenna)) out
+    → Fills n out′ (replyContent identifier code (cond t (DATA antenna) (NACK noCard))) out
+    → Fills n out′ (replyContent identifier code (replyTo value command header antenna)) out
 unfolding replyTo
 puts-card identifier code value header antenna out asked whole put = rw (asked, whole) put

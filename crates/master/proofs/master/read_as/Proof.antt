@@ -1,9 +1,7 @@
 -- `master::read_as` meets its contract: each test is a row of the refusal table.
 -- Assumes nothing.
-use mathlib.Core.Path.{sym, ap, _∙_}
 use borrow.Author.Needs.{needs}
 use Rattle.ground.proofs.Laws.Lists.{take-rest}
-use Rattle.master.specs.Reading.{replyData, telling}
 use Rattle.master.proofs.Laws.Reading.{refuses-empty, refuses-identifier, refuses-absent, reads-sign, refuses-command, refuses-echo, reads-data}
 use Rattle.master.proofs.master.read_as.Statement.{statement}
 use Rattle.master.proofs.master.read_as.Tie as tie
@@ -13,10 +11,8 @@ refused-requires c κs = search needs
 
 returns : tie.Need-returns
 returns c =
-    let a = c .before .before .before .args in
-    let reply = a .reply .now in
-    ap (telling (replyData reply)) (c .refused .ensures) ∙ sym
-    (refuses-empty (a .identifier) (a .code) reply (a .command) (c .before .if1 .taken))
+    let none = c .before .if1 .taken in
+    rw (c .refused .ensures, refuses-empty)
 
 shared-slice-read-if2 : tie.Need-shared-slice-read-if2
 shared-slice-read-if2 c = search needs
@@ -26,21 +22,19 @@ refused-requires-2 c κs = search needs
 
 returns-2 : tie.Need-returns-2
 returns-2 c =
-    let a = c .before .before .before .before .before .args in
-    let reply = a .reply .now in
-    ap (telling (replyData reply)) (c .refused2 .ensures)
-    ∙ sym (refuses-identifier (a .identifier) (a .code) reply (a .command) (c .before .before .before .if1 .left) (c .before .if2 .taken))
+    let some = c .before .before .before .if1 .left in
+    let other = c .before .if2 .taken in
+    rw (c .refused2 .ensures, refuses-identifier)
 
 refused-requires-3 : tie.Need-refused-requires-3
 refused-requires-3 c κs = search needs
 
 returns-3 : tie.Need-returns-3
 returns-3 c =
-    let a = c .before .before .before .before .before .before .args in
-    let reply = a .reply .now in
-    ap (telling (replyData reply)) (c .refused3 .ensures)
-    ∙ sym (refuses-absent (a .identifier) (a .code) reply (a .command) (c .before .before .before .before .if1 .left)
-    (c .before .before .if2 .left) (c .before .if3 .taken))
+    let some = c .before .before .before .before .if1 .left in
+    let own = c .before .before .if2 .left in
+    let one = c .before .if3 .taken in
+    rw (c .refused3 .ensures, refuses-absent)
 
 shared-slice-read-if4 : tie.Need-shared-slice-read-if4
 shared-slice-read-if4 c = search needs
@@ -59,12 +53,13 @@ read-sign-requires c κs = search needs
 
 returns-4 : tie.Need-returns-4
 returns-4 c =
-    let a = c .before .before .before .before .before .before .before .before .before .args in
-    let reply = a .reply .now in
     let d = c .before .before .before .before in
-    rw (take-rest reply 2) at (c .read-sign .ensures)
-    ∙ sym (reads-sign (a .identifier) (a .code) reply (a .command) (d .before .before .before .if1 .left) (d .before .if2 .left)
-    (d .if3 .left) (c .before .before .if4 .taken))
+    let reply = d .before .before .before .before .before .args .reply .now in
+    let some = d .before .before .before .if1 .left in
+    let own = d .before .if2 .left in
+    let more = d .if3 .left in
+    let mark = c .before .before .if4 .taken in
+    rw reads-sign (rw (take-rest reply 2) at (c .read-sign .ensures))
 
 shared-slice-read-if5 : tie.Need-shared-slice-read-if5
 shared-slice-read-if5 c = search needs
@@ -74,24 +69,27 @@ refused-requires-4 c κs = search needs
 
 returns-5 : tie.Need-returns-5
 returns-5 c =
-    let a = c .before .before .before .before .before .before .before .before .before .before .args in
-    let reply = a .reply .now in
     let d = c .before .before .before .before .before in
-    ap (telling (replyData reply)) (c .refused4 .ensures)
-    ∙ sym (refuses-command (a .identifier) (a .code) reply (a .command) (d .before .before .before .if1 .left) (d .before .if2 .left)
-    (d .if3 .left) (c .before .before .before .if4 .left) (c .before .if5 .taken))
+    let some = d .before .before .before .if1 .left in
+    let own = d .before .if2 .left in
+    let more = d .if3 .left in
+    let plain = c .before .before .before .if4 .left in
+    let other = c .before .if5 .taken in
+    rw (c .refused4 .ensures, refuses-command)
 
 refused-requires-5 : tie.Need-refused-requires-5
 refused-requires-5 c κs = search needs
 
 returns-6 : tie.Need-returns-6
 returns-6 c =
-    let a = c .before .before .before .before .before .before .before .before .before .before .before .args in
-    let reply = a .reply .now in
     let d = c .before .before .before .before .before .before in
-    ap (telling (replyData reply)) (c .refused5 .ensures)
-    ∙ sym (refuses-echo (a .identifier) (a .code) reply (a .command) (d .before .before .before .if1 .left) (d .before .if2 .left)
-    (d .if3 .left) (c .before .before .before .before .if4 .left) (c .before .before .if5 .left) (c .before .if6 .taken))
+    let some = d .before .before .before .if1 .left in
+    let own = d .before .if2 .left in
+    let more = d .if3 .left in
+    let plain = c .before .before .before .before .if4 .left in
+    let same = c .before .before .if5 .left in
+    let write = c .before .if6 .taken in
+    rw (c .refused5 .ensures, refuses-echo)
 
 sub-read-data : tie.Need-sub-read-data
 sub-read-data c = search needs
@@ -107,13 +105,15 @@ read-data-requires c κs = search needs
 
 returns-7 : tie.Need-returns-7
 returns-7 c =
-    let a = c .before .before .before .before .before .before .before .before .before .before .before .before .args in
-    let reply = a .reply .now in
     let d = c .before .before .before .before .before .before .before in
-    rw (take-rest reply 2) at (c .read-data .ensures)
-    ∙ sym (reads-data (a .identifier) (a .code) reply (a .command) (d .before .before .before .if1 .left) (d .before .if2 .left)
-    (d .if3 .left) (c .before .before .before .before .before .if4 .left) (c .before .before .before .if5 .left)
-    (c .before .before .if6 .left))
+    let reply = d .before .before .before .before .before .args .reply .now in
+    let some = d .before .before .before .if1 .left in
+    let own = d .before .if2 .left in
+    let more = d .if3 .left in
+    let plain = c .before .before .before .before .before .if4 .left in
+    let same = c .before .before .before .if5 .left in
+    let other = c .before .before .if6 .left in
+    rw reads-data (rw (take-rest reply 2) at (c .read-data .ensures))
 
 pub read-as-spec : {M : Type 1} → statement M
 read-as-spec =

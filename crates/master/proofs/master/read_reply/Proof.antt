@@ -1,7 +1,7 @@
 -- `master::read_reply` meets its contract.
 -- Assumes nothing.
-use mathlib.Core.Path.{sym, _∙_}
 use borrow.Author.Needs.{needs}
+use Rattle.request.proofs.Laws.Acceptance.{judged-as}
 use Rattle.master.specs.Reading.{replyRead}
 use Rattle.master.proofs.master.read_reply.Statement.{statement}
 use Rattle.master.proofs.master.read_reply.Tie as tie
@@ -24,12 +24,18 @@ refused-requires c κs = search needs
 returns : tie.Need-returns
 unfolding replyRead
 returns c =
-    rw (sym (c .before .before .before .before .accept .ensures) ∙ c .before .before .acceptance .given .1) (c .read-as .ensures)
+    let a = c .before .before .before .before .before .before .before .args in
+    rw (judged-as (a .code) (a .«data» .now) (c .before .before .before .before .accept .ensures) (c .before .before .acceptance .given .1))
+    (c .read-as .ensures)
 
 returns-2 : tie.Need-returns-2
 unfolding replyRead
 returns-2 c =
-    rw (c .refused .ensures, sym (c .before .before .before .accept .ensures) ∙ c .before .enum-told .given .1)
+    let a = c .before .before .before .before .before .before .args in
+    rw (
+      c .refused .ensures,
+      judged-as (a .code) (a .«data» .now) (c .before .before .before .accept .ensures) (c .before .enum-told .given .1),
+    )
 
 pub read-reply-spec : {M : Type 1} → statement M
 read-reply-spec =

@@ -26,27 +26,27 @@ bare-requires-4 c κs = search needs
 
 returns : tie.Need-returns
 unfolding acceptance
-returns c = simp (c .before .match .keys1) (c .bare .ensures)
+returns c = simp (c .before .match .keys1, c .bare .ensures)
 
 returns-2 : tie.Need-returns-2
 unfolding acceptance
-returns-2 c = simp (c .before .match .keys2) (c .writing .ensures)
+returns-2 c = simp (c .before .match .keys2, c .writing .ensures)
 
 returns-3 : tie.Need-returns-3
 unfolding acceptance
-returns-3 c = simp (c .before .match .keys3) (c .reading .ensures)
+returns-3 c = simp (c .before .match .keys3, c .reading .ensures)
 
 returns-4 : tie.Need-returns-4
 unfolding acceptance
-returns-4 c = simp (c .before .match .keys4) (c .bare2 .ensures)
+returns-4 c = simp (c .before .match .keys4, c .bare2 .ensures)
 
 returns-5 : tie.Need-returns-5
 unfolding acceptance
-returns-5 c = simp (c .before .match .keys5) (c .bare3 .ensures)
+returns-5 c = simp (c .before .match .keys5, c .bare3 .ensures)
 
 returns-6 : tie.Need-returns-6
 unfolding acceptance
-returns-6 c = simp (c .before .match .keys6) (c .bare4 .ensures)
+returns-6 c = simp (c .before .match .keys6, c .bare4 .ensures)
 
 returns-7 : tie.Need-returns-7
 unfolding acceptance

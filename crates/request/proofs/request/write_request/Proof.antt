@@ -5,6 +5,7 @@ use borrow.Author.Needs.{needs}
 use Rattle.ground.specs.Refusals.{Answer}
 use Rattle.wire.specs.Writing.{leaving}
 use Rattle.request.specs.Acceptance.{isAccepted}
+use Rattle.request.proofs.Laws.Acceptance.{judged-as}
 use Rattle.request.proofs.Laws.Requesting.{request-refused, request-written}
 use Rattle.request.proofs.request.write_request.Statement.{statement}
 use Rattle.request.proofs.request.write_request.Tie as tie
@@ -32,14 +33,15 @@ returns c =
     let a = c .before .before .before .before .before .before .before .before .before .args in
     c .before .before .write-point .ensures
     ∙ request-written (a .identifier) (a .code) (a .«data» .now) (a .out .now)
-    (sym (c .before .before .before .before .before .before .accept .ensures) ∙ c .before .before .before .before .enum-told .given .1)
+    (judged-as (a .code) (a .«data» .now) (c .before .before .before .before .before .before .accept .ensures)
+    (c .before .before .before .before .enum-told .given .1))
 
 returns-2 : tie.Need-returns-2
 returns-2 c =
     let a = c .before .before .before .before .before .before .args in
     ap (λ (w : Answer). leaving w (a .out .now)) (c .refused .ensures)
     ∙ sym (request-refused (a .identifier) (a .code) (a .«data» .now) (a .out .now)
-    (ap isAccepted (sym (c .before .before .before .accept .ensures) ∙ c .before .enum-told2 .given .1)))
+    (ap isAccepted (judged-as (a .code) (a .«data» .now) (c .before .before .before .accept .ensures) (c .before .enum-told2 .given .1))))
 
 pub write-request-spec : {M : Type 1} → statement M
 write-request-spec =

@@ -1,10 +1,7 @@
 -- `answer::answer` meets its contract: its tests are the rows of the refusal table, in their order.
 -- Assumes nothing.
-use mathlib.Core.Path.{sym, ap, _∙_}
+use mathlib.Core.Path.{sym, _∙_}
 use borrow.Author.Needs.{needs}
-use Rattle.station.specs.Events.{named}
-use Rattle.reader.specs.declared.reader.Answer.{Answer}
-use Rattle.reader.specs.Answering.{answering}
 use Rattle.reader.proofs.Laws.Answering.{refuses-state, refuses-store, refuses-out, refuses-antenna, heeds}
 use Rattle.steps.proofs.answer.answer.Statement.{statement}
 use Rattle.steps.proofs.answer.answer.Tie as tie
@@ -17,42 +14,38 @@ refused-requires c κs = search needs
 
 returns : tie.Need-returns
 returns c =
-    let a = c .before .before .before .before .before .before .before .args in
-    ap (λ (r : Answer). answering r (a .store .now) (a .out .now)) (c .refused .ensures)
-    ∙ sym (refuses-state (a .reader) (named (a .event)) (a .content .now) (a .header) (a .antenna .now) (a .store .now) (a .out .now)
-    (sym (c .before .before .is-bad .ensures) ∙ c .before .if1 .taken))
+    let bad = sym (c .before .before .is-bad .ensures) ∙ c .before .if1 .taken in
+    rw (c .refused .ensures, refuses-state)
 
 refused-requires-2 : tie.Need-refused-requires-2
 refused-requires-2 c κs = search needs
 
 returns-2 : tie.Need-returns-2
 returns-2 c =
-    let a = c .before .before .before .before .before .before .before .before .args in
-    ap (λ (r : Answer). answering r (a .store .now) (a .out .now)) (c .refused2 .ensures)
-    ∙ sym (refuses-store (a .reader) (named (a .event)) (a .content .now) (a .header) (a .antenna .now) (a .store .now) (a .out .now)
-    (sym (c .before .before .before .is-bad .ensures) ∙ c .before .before .if1 .left) (c .before .if2 .taken))
+    let good = sym (c .before .before .before .is-bad .ensures) ∙ c .before .before .if1 .left in
+    let short = c .before .if2 .taken in
+    rw (c .refused2 .ensures, refuses-store)
 
 refused-requires-3 : tie.Need-refused-requires-3
 refused-requires-3 c κs = search needs
 
 returns-3 : tie.Need-returns-3
 returns-3 c =
-    let a = c .before .before .before .before .before .before .before .before .before .args in
-    ap (λ (r : Answer). answering r (a .store .now) (a .out .now)) (c .refused3 .ensures)
-    ∙ sym (refuses-out (a .reader) (named (a .event)) (a .content .now) (a .header) (a .antenna .now) (a .store .now) (a .out .now)
-    (sym (c .before .before .before .before .is-bad .ensures) ∙ c .before .before .before .if1 .left) (c .before .before .if2 .left)
-    (c .before .if3 .taken))
+    let good = sym (c .before .before .before .before .is-bad .ensures) ∙ c .before .before .before .if1 .left in
+    let kept = c .before .before .if2 .left in
+    let short = c .before .if3 .taken in
+    rw (c .refused3 .ensures, refuses-out)
 
 refused-requires-4 : tie.Need-refused-requires-4
 refused-requires-4 c κs = search needs
 
 returns-4 : tie.Need-returns-4
 returns-4 c =
-    let a = c .before .before .before .before .before .before .before .before .before .before .args in
-    ap (λ (r : Answer). answering r (a .store .now) (a .out .now)) (c .refused4 .ensures)
-    ∙ sym (refuses-antenna (a .reader) (named (a .event)) (a .content .now) (a .header) (a .antenna .now) (a .store .now) (a .out .now)
-    (sym (c .before .before .before .before .before .is-bad .ensures) ∙ c .before .before .before .before .if1 .left)
-    (c .before .before .before .if2 .left) (c .before .before .if3 .left) (c .before .if4 .taken))
+    let good = sym (c .before .before .before .before .before .is-bad .ensures) ∙ c .before .before .before .before .if1 .left in
+    let kept = c .before .before .before .if2 .left in
+    let long = c .before .before .if3 .left in
+    let over = c .before .if4 .taken in
+    rw (c .refused4 .ensures, refuses-antenna)
 
 heed-requires : tie.Need-heed-requires
 heed-requires c κs = search needs
@@ -66,11 +59,11 @@ same-length-2 c = search needs
 returns-5 : tie.Need-returns-5
 returns-5 c =
     let d = c .before .before .before .before .before .before .before in
-    let a = d .before .before .before .before .before .before .before .before .before .args in
-    c .before .before .before .before .heed .ensures
-    ∙ sym (heeds (a .reader) (named (a .event)) (a .content .now) (a .header) (a .antenna .now) (a .store .now) (a .out .now)
-    (sym (d .before .before .before .before .is-bad .ensures) ∙ d .before .before .before .if1 .left) (d .before .before .if2 .left)
-    (d .before .if3 .left) (d .if4 .left))
+    let good = sym (d .before .before .before .before .is-bad .ensures) ∙ d .before .before .before .if1 .left in
+    let kept = d .before .before .if2 .left in
+    let long = d .before .if3 .left in
+    let few = d .if4 .left in
+    rw heeds (c .before .before .before .before .heed .ensures)
 
 pub answer-spec : {M : Type 1} → statement M
 answer-spec =

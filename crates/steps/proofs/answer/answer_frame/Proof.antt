@@ -1,18 +1,14 @@
 -- `answer::answer_frame` meets its contract: steps 3 to 6.
 -- Assumes nothing.
-use mathlib.Core.Path.{sym, ap, _∙_}
-use mathlib.Core.List.{List}
-use Prim.Native.Nat.{ℕ}
+use mathlib.Core.Path.{sym, _∙_}
 use native.Mathlib.Omega.{arith}
-use lib.ListN.{getD}
 use borrow.Author.Needs.{needs}
 use Rattle.ground.proofs.Laws.Lists.{take-rest}
-use Rattle.request.specs.Acceptance.{acceptance}
-use Rattle.request.specs.Replies.{NACK, sign}
-use Rattle.request.proofs.Laws.Acceptance.{accepts, carries}
-use Rattle.reader.specs.declared.reader.Answer.{Answer}
+use Rattle.request.specs.declared.command.Acceptance.the-variants.{Accepted, Refused}
+use Rattle.request.specs.Replies.{NACK, sign, identifierOf, commandOf}
+use Rattle.request.proofs.Laws.Acceptance.{accepts, carries, judged-as}
+use Rattle.reader.specs.declared.memory.Repeat.the-variants.{Stored}
 use Rattle.reader.specs.Replies.{replyContent}
-use Rattle.reader.specs.Answering.{answering, nacked, executed}
 use Rattle.reader.proofs.Laws.Answering.{framed-by}
 use Rattle.steps.proofs.Laws.Answering.{put-answers, framed-new, front-least}
 use Rattle.steps.proofs.answer.answer_frame.Statement.{statement}
@@ -45,10 +41,9 @@ sending-requires c κs = search needs
 
 returns : tie.Need-returns
 returns c =
-    let a = c .before .before .before .before .before .before .before .before .before .before .before .args in
-    ap (λ (r : Answer). answering r (a .store .now) (a .out .now)) (c .sending .ensures)
-    ∙ sym (framed-by (a .reader) (a .header) (a .antenna .now) (a .store .now) (a .out .now) (a .content .now) _
-    (sym (c .before .before .before .before .find .ensures) ∙ c .before .before .length .given .1))
+    let known = c .before .before .length .given in
+    let found = sym (c .before .before .before .before .find .ensures) ∙ known .1 in
+    rw (c .sending .ensures, framed-by {k = Stored (known .0 .0)})
 
 enum-told : tie.Need-enum-told
 enum-told c = search needs
@@ -59,9 +54,7 @@ sub-data c =
     (c .before .before .before .before .before .before .before .before .before .pre .0)
 
 part-data-start : tie.Need-part-data-start
-part-data-start c =
-    front-least (c .before .before .before .before .before .before .before .before .before .args .content .now)
-    (c .before .before .before .before .before .before .before .before .before .pre .0)
+part-data-start c = sub-data c
 
 part-data-end : tie.Need-part-data-end
 part-data-end c = search needs
@@ -75,9 +68,9 @@ enum-known-acceptance c = search needs
 execute-requires : tie.Need-execute-requires
 execute-requires c κs =
     let d = c .before .before .before .before .before in
-    let a = c .before .before .before .before .before .before .before .before .before .before .before .before .before .before .before .before in (
-      carries (accepts (getD (a .args .content .now) 1 0) _
-          (sym (d .accept .ensures) ∙ c .before .before .before .acceptance .given .1)),
+    let a = d .before .before .before .before .before .before .before .before .before .before .before in (
+      carries (accepts (commandOf (a .args .content .now)) _
+          (judged-as (commandOf (a .args .content .now)) _ (d .accept .ensures) (c .before .before .before .acceptance .given .1))),
       a .pre .1,
     )
 
@@ -103,38 +96,31 @@ returns-2 : tie.Need-returns-2
 returns-2 c =
     let d = c .before .before .before .before in
     let e = d .before .before .before .before .before .before .before in
-    let a = e .before .before .before .before .before .before .before .before .before .before .args in
-    let content = a .content .now in
+    let content = e .before .before .before .before .before .before .before .before .before .before .args .content .now in
     let known = c .before .before .before .before .before .before .before .before .acceptance .given in
-    d .execute .ensures
-    ∙ ap
-    (λ (l : List ℕ). executed (a .reader) (a .header) (a .antenna .now) (a .store .now) (a .out .now) (getD content 0 0) (getD content 1 0) l
-    (known .0 .0))
-    (take-rest content 2)
-    ∙ sym (framed-new (a .reader) (a .header) (a .antenna .now) (a .store .now) (a .out .now) content _
-    (sym (e .before .before .before .find .ensures) ∙ e .before .enum-told .given .1)
-    (ap (acceptance (getD content 1 0)) (sym (take-rest content 2)) ∙ sym (d .before .before .before .before .before .before .accept .ensures)
-    ∙ known .1))
+    let found = sym (e .before .before .before .find .ensures) ∙ e .before .enum-told .given .1 in
+    let asked = rw (take-rest content 2) at
+    (judged-as (commandOf content) _ (d .before .before .before .before .before .before .accept .ensures) (known .1))
+    in
+    rw (framed-new {a = Accepted (known .0 .0)}) (rw (take-rest content 2) at (d .execute .ensures))
 
 same-length-3 : tie.Need-same-length-3
 same-length-3 c = search needs
 
 returns-3 : tie.Need-returns-3
 returns-3 c =
+    let n = c .before .before .before .before .before .nack-of in
     let d = c .before .before .before .before .before .before .before .before .before .before in
     let a = d .before .before .before .before .before .before .before .before .before .before .args in
     let content = a .content .now in
-    let identifier = getD content 0 0 in
-    put-answers (a .reader) (replyContent identifier sign (NACK (c .before .before .before .before .before .nack-of .result))) (a .store .now)
-    (a .out .now) (c .sending2 .ensures)
-    (c .before .before .before .write-nack .ensures)
-    ∙ ap (λ (n : ℕ). nacked (a .reader) identifier n (a .store .now) (a .out .now))
-    (c .before .before .before .before .before .nack-of .ensures)
-    ∙ sym (framed-new (a .reader) (a .header) (a .antenna .now) (a .store .now) (a .out .now) content _
-    (sym (d .before .before .before .find .ensures) ∙ d .before .enum-told .given .1)
-    (ap (acceptance (getD content 1 0)) (sym (take-rest content 2)) ∙ sym
-    (c .before .before .before .before .before .before .before .before .before .accept .ensures)
-    ∙ c .before .before .before .before .before .before .before .acceptance2 .given .1))
+    let known = c .before .before .before .before .before .before .before .acceptance2 .given in
+    let found = sym (d .before .before .before .find .ensures) ∙ d .before .enum-told .given .1 in
+    let asked = rw (take-rest content 2) at
+    (judged-as (commandOf content) _ (c .before .before .before .before .before .before .before .before .before .accept .ensures) (known .1))
+    in
+    rw (framed-new {a = Refused (known .0 .0)}, ← n .ensures)
+    (put-answers (a .reader) (replyContent (identifierOf content) sign (NACK (n .result))) (a .store .now) (a .out .now)
+    (c .sending2 .ensures) (c .before .before .before .write-nack .ensures))
 
 pub answer-frame-spec : {M : Type 1} → statement M
 answer-frame-spec =

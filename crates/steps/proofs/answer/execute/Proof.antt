@@ -5,9 +5,9 @@ use native.Mathlib.Omega.{arith}
 use lib.ListN.{length-take}
 use lib.Seq.{length-take-le}
 use borrow.Author.Needs.{needs}
+use Rattle.ground.proofs.Laws.Laying.{put-onto}
 use Rattle.reader.specs.Parameters.{valueOf}
 use Rattle.reader.specs.Replies.{replyContent, replyTo}
-use Rattle.steps.proofs.Laws.Copying.{put-onto}
 use Rattle.steps.proofs.Laws.Replies.{puts-within}
 use Rattle.steps.proofs.Laws.Answering.{execute-answers}
 use Rattle.steps.proofs.answer.execute.Statement.{statement}

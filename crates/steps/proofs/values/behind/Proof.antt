@@ -22,9 +22,7 @@ sub-with-value c =
     (c .before .before .before .before .pre) .0
 
 part-with-value-start : tie.Need-part-with-value-start
-part-with-value-start c =
-    subst (λ (k : Command). Carries k (c .before .before .before .before .args .«data» .now)) (c .before .command .given .1)
-    (c .before .before .before .before .pre) .0
+part-with-value-start c = sub-with-value c
 
 part-with-value-end : tie.Need-part-with-value-end
 part-with-value-end c = search needs

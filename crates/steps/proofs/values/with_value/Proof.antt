@@ -1,10 +1,18 @@
 -- `values::with_value` meets its contract.
 -- Assumes nothing.
+use mathlib.Core.Path.{_≡_, _∙_, sym}
+use mathlib.Core.Bool.{true}
+use mathlib.Core.List.{List}
+use Prim.Native.Nat.{ℕ}
 use native.Mathlib.Omega.{arith}
-use lib.ListN.{replicate}
+use lib.ListN.{replicate, length-replicate}
 use borrow.Author.Needs.{needs}
+use Rattle.ground.specs.Laying.{Ended, put}
+use Rattle.ground.proofs.Laws.Laying.{put-whole}
+use Rattle.request.specs.declared.parameter.Parameter.{Parameter}
+use Rattle.request.specs.declared.parameter.Parameter.the-variants.{Settings, Cell}
+use Rattle.request.specs.Parameters.{lengthOf, takes}
 use Rattle.request.proofs.Laws.Parameters.{value-length}
-use Rattle.steps.proofs.Laws.Copying.{put-whole}
 use Rattle.steps.proofs.values.with_value.Statement.{statement}
 use Rattle.steps.proofs.values.with_value.Tie as tie
 
@@ -38,19 +46,24 @@ put-requires-2 c κs = search needs
 returns : tie.Need-returns
 returns c = simp (c .before .enum-told .given .1)
 
+-- a value put into an array of its parameter's length is all that stands there
+value-put : {p : Parameter} {e : Ended} (q : Parameter) (value : List ℕ) → p ≡ q → takes p value ≡ true
+    → e ≡ put value (replicate (lengthOf q) 0) 0
+    → e .out ≡ value
+value-put q value told taken says =
+    put-whole value (replicate (lengthOf q) 0) says (value-length value told taken ∙ sym (length-replicate (lengthOf q) 0))
+
 returns-2 : tie.Need-returns-2
 returns-2 c =
     let a = c .before .before .before .before .before .before .before .before in
     let told = c .before .before .before .enum-told2 .given .1 in
-    let sized = value-length (a .args .value .now) told (a .pre) in
-    simp (told, put-whole (a .args .value .now) (replicate 4 0) (c .before .put .ensures) (omega (arith, sized)))
+    simp (told, value-put Settings (a .args .value .now) told (a .pre) (c .before .put .ensures))
 
 returns-3 : tie.Need-returns-3
 returns-3 c =
     let a = c .before .before .before .before .before .before .before .before in
     let told = c .before .before .before .enum-told3 .given .1 in
-    let sized = value-length (a .args .value .now) told (a .pre) in
-    simp (told, put-whole (a .args .value .now) (replicate 8 0) (c .before .put2 .ensures) (omega (arith, sized)))
+    simp (told, value-put Cell (a .args .value .now) told (a .pre) (c .before .put2 .ensures))
 
 pub with-value-spec : {M : Type 1} → statement M
 with-value-spec =
