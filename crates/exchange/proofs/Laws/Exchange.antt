@@ -1,6 +1,6 @@
 -- A whole exchange: what a reader sends is heard by the link as the frame that it meant, and the master reads in it what was meant.
 -- Assumes nothing.
-use mathlib.Core.Path.{_≡_, sym, subst, subst⁻¹}
+use mathlib.Core.Path.{_≡_, subst, subst⁻¹}
 use mathlib.Core.Bool.{Bool, false}
 use mathlib.Core.List.{List, _∷_, _++_, List·Memᴰ}
 use Prim.Native.Nat.{ℕ, _+_, _≤_}

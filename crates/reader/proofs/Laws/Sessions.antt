@@ -74,7 +74,7 @@ loose (called se r event content header antenna store out store′ out′ kept w
     called (loose se) r event content header antenna store out store′ out′ tt whole says
 
 -- one begins with a fresh reader
-pub fresh-session : (store : List ℕ) → Session false fresh store begun
+pub fresh-session : {alone : Bool} (store : List ℕ) → Session alone fresh store begun
 fresh-session store = made fresh store refl
 
 -- speed is 3..10 and the remembered length at most 130 in every record that is reached: no call finds a bad state
