@@ -61,6 +61,10 @@ begun = record { value = delivered; last = none }
 abbrev pub forgetting : History → History
 forgetting h = record { value = h .value; last = none }
 
+-- unless it was refused
+abbrev pub poweredBy : History → ℕ → History
+poweredBy h refusal = cond (eqb refusal 0) (forgetting h) h
+
 -- step 3: identifier and command equal those of the last executed command
 abbrev pub repeats : Option Executed → ℕ → ℕ → Bool
 repeats none identifier code = false
@@ -149,7 +153,7 @@ pub data Session (alone : Bool) : Reader → List ℕ → History → Type 0 whe
   powered : {s : Reader} {held : List ℕ} {h : History} → Session alone s held h
       → (r : Powered)
       → powering r ≡ poweredOn s
-      → Session alone (r .reader) held (forgetting h)
+      → Session alone (r .reader) held (poweredBy h (number (r .refusal)))
   called : {s : Reader} {held : List ℕ} {h : History} → Session alone s held h
       → (r : Answer) (event : Event) (content header antenna store out store′ out′ : List ℕ)
       → Kept alone held store
@@ -174,7 +178,7 @@ pub data Unwritten (alone : Bool) (p : Parameter) (s : Reader) (held : List ℕ)
   power : {t : Reader} {kept : List ℕ} {k : History} → Unwritten alone p s held h t kept k
       → (r : Powered)
       → powering r ≡ poweredOn t
-      → Unwritten alone p s held h (r .reader) kept (forgetting k)
+      → Unwritten alone p s held h (r .reader) kept (poweredBy k (number (r .refusal)))
   other : {t : Reader} {kept : List ℕ} {k : History} → Unwritten alone p s held h t kept k
       → (r : Answer) (event : Event) (content header antenna store out store′ out′ : List ℕ)
       → Kept alone kept store

@@ -5,7 +5,7 @@ use crate::parameters::Parameters;
 use ground::refusal::Refusal;
 use request::parameter::is_speed;
 ghost use mathlib.Core.Path.{_≡_};
-ghost use Rattle.reader.specs.Answering.{fresh as freshOf, badState, powering, poweredOn, answerOf};
+ghost use Rattle.reader.specs.Answering.{fresh as freshOf, badState, powering, poweredOn};
 
 // A reader between two calls: its three parameters, and the memory of the last executed command.
 pub struct Reader {
@@ -67,32 +67,6 @@ impl Reader {
             memory.is_too_far()
         } else {
             true
-        }
-    }
-}
-
-impl Answer {
-    // No refusal: this reader from now on, and so many bytes of a buffer to send.
-    pub fn sending(reader: Reader, buffer: Buffer, length: usize) -> Answer
-        ensures { λ r. ⌜ r ≡ answerOf Refusal.None reader buffer length ⌝ }
-    {
-        Answer {
-            refusal: Refusal::None,
-            reader,
-            buffer,
-            length,
-        }
-    }
-
-    // A refusal: the reader as it was, and nothing to send.
-    pub fn refused(refusal: Refusal, reader: Reader) -> Answer
-        ensures { λ r. ⌜ r ≡ answerOf refusal reader Buffer.Out 0 ⌝ }
-    {
-        Answer {
-            refusal,
-            reader,
-            buffer: Buffer::Out,
-            length: 0,
         }
     }
 }

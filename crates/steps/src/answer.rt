@@ -27,7 +27,7 @@ ghost use mathlib.Core.Bool.{true};
 ghost use Rattle.station.specs.Events.{named};
 ghost use Rattle.request.specs.Acceptance.{Carries};
 ghost use Rattle.reader.specs.Asking.{asking as askingOf};
-ghost use Rattle.reader.specs.Answering.{answering, Lent, executed as executedOf, framed, isFront, fits as fitsOf, heeded, answered};
+ghost use Rattle.reader.specs.Answering.{answering, answerOf, Lent, executed as executedOf, framed, isFront, fits as fitsOf, heeded, answered};
 
 // Answers what a receiver heard: an event with its content, the check cut off. What is to be sent stands in `out`, on a repeat in
 // `store`; `to_send` hands it back. Refuses a reader as `power_on` does (BadState), `store` or `out` under 130 bytes (NoRoom), an
@@ -45,16 +45,16 @@ pub fn answer(
     ensures { λ r. ⌜ answering r (now (store .exit)) (now (out .exit)) ≡ answered reader (named event) (now (content .entry)) header (now (antenna .entry)) (now (store .entry)) (now (out .entry)) ⌝ }
 {
     if reader.is_bad() {
-        return Answer::refused(Refusal::BadState, reader);
+        return refused(Refusal::BadState, reader);
     }
     if store.len() < ROOM {
-        return Answer::refused(Refusal::NoRoom, reader);
+        return refused(Refusal::NoRoom, reader);
     }
     if out.len() < ROOM {
-        return Answer::refused(Refusal::NoRoom, reader);
+        return refused(Refusal::NoRoom, reader);
     }
     if antenna.len() > MOST_ANTENNA {
-        return Answer::refused(Refusal::TooLong, reader);
+        return refused(Refusal::TooLong, reader);
     }
     heed(reader, event, content, header, antenna, store, out)
 }
@@ -75,8 +75,8 @@ fn heed(
     let asking = asked_by(event);
     if fits(asking, content) {
         match asking {
-            Asking::Nothing => Answer::sending(reader, Buffer::Out, 0),
-            Asking::Wrong => Answer::sending(
+            Asking::Nothing => sending(reader, Buffer::Out, 0),
+            Asking::Wrong => sending(
                 reader,
                 Buffer::Out,
                 write_nack(content[0], WRONG_CHECK, out),
@@ -84,7 +84,7 @@ fn heed(
             Asking::Right => answer_frame(reader, content, header, antenna, store, out),
         }
     } else {
-        Answer::refused(Refusal::BadRequest, reader)
+        refused(Refusal::BadRequest, reader)
     }
 }
 
@@ -104,7 +104,7 @@ fn answer_frame(
     let code = content[1];
     let memory = reader.memory;
     if let Repeat::Stored(length) = memory.find(identifier, code) {
-        return Answer::sending(reader, Buffer::Store, length);
+        return sending(reader, Buffer::Store, length);
     }
     let data = &content[2..];
     let acceptance = accept(code, data);
@@ -121,7 +121,7 @@ fn answer_frame(
             out,
         ),
         Acceptance::Refused(fault) => {
-            Answer::sending(
+            sending(
                 reader,
                 Buffer::Out,
                 write_nack(identifier, nack_of(fault), out),
@@ -155,7 +155,7 @@ fn execute(
         length,
     };
     let reader = Reader { parameters, memory };
-    Answer::sending(reader, Buffer::Out, length)
+    sending(reader, Buffer::Out, length)
 }
 
 // Whether what is asked may come with this content.
@@ -177,4 +177,28 @@ fn is_front(content: &[u8]) -> bool
         return false;
     }
     content.len() <= MOST_FRONT
+}
+
+// No refusal: this reader from now on, and so many bytes of a buffer to send.
+fn sending(reader: Reader, buffer: Buffer, length: usize) -> Answer
+    ensures { λ r. ⌜ r ≡ answerOf Refusal.None reader buffer length ⌝ }
+{
+    Answer {
+        refusal: Refusal::None,
+        reader,
+        buffer,
+        length,
+    }
+}
+
+// A refusal: the reader as it was, and nothing to send.
+fn refused(refusal: Refusal, reader: Reader) -> Answer
+    ensures { λ r. ⌜ r ≡ answerOf refusal reader Buffer.Out 0 ⌝ }
+{
+    Answer {
+        refusal,
+        reader,
+        buffer: Buffer::Out,
+        length: 0,
+    }
 }

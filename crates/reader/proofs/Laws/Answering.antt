@@ -10,24 +10,36 @@ use lib.ListN.{length}
 use borrow.Author.Tests.{ltb-true, ltb-false, lt-ltb, le-ltb, le-leb}
 use Rattle.ground.specs.declared.refusal.Refusal.{Refusal}
 use Rattle.ground.specs.declared.refusal.Refusal.the-variants.{NoRoom, TooLong, BadState, BadRequest}
-use Rattle.ground.specs.Refusals.{number}
+use Rattle.ground.specs.Refusals.{number, Keeps}
 use Rattle.ground.proofs.Laws.Choice.{cond-elim, or-none, by-test}
 use Rattle.station.specs.Events.{Name}
 use Rattle.link.specs.Limits.{mostData}
+use Rattle.request.specs.declared.command.Acceptance.{Acceptance}
+use Rattle.request.specs.declared.command.Acceptance.the-variants.{Accepted, Refused}
 use Rattle.request.specs.Limits.{mostAntenna}
+use Rattle.request.specs.Acceptance.{acceptance}
 use Rattle.request.specs.Replies.{identifierOf, commandOf, dataOf}
 use Rattle.reader.specs.declared.memory.Memory.the-variants as Memory
+use Rattle.reader.specs.declared.asking.Asking.{Asking}
+use Rattle.reader.specs.declared.asking.Asking.the-variants.{Nothing, Wrong, Right}
 use Rattle.reader.specs.declared.memory.Repeat.{Repeat}
+use Rattle.reader.specs.declared.memory.Repeat.the-variants.{New, Stored}
 use Rattle.reader.specs.declared.reader.Reader.{Reader}
 use Rattle.reader.specs.Limits.{room, leastFront, mostFront}
 use Rattle.reader.specs.Asking.{asking}
 use Rattle.reader.specs.Memory.{find}
-use Rattle.reader.specs.Answering.{being, badState, poweredOn, Answered, refusing, recalled, framed, stepped, Lent, isFront, fits, heeded, answered, ByTable, state, noStore, noOut, tooLong, request, steps}
+use Rattle.reader.specs.Answering.{being, badState, PoweredOn, poweredOn, Answered, refusing, judged, recalled, framed, stepped, Lent, isFront, fits, heeded, answered, ByTable, state, noStore, noOut, tooLong, request, steps}
 
 -- power-on of a good reader
 pub powers-on : (s : Reader) → badState s ≡ false → poweredOn s ≡ record { refusal = 0; reader = being (s .parameters) Memory.None }
 unfolding poweredOn
 powers-on s good = rw good
+
+-- a refused one leaves the reader as before
+pub powered-keeps : (s : Reader) → Keeps (poweredOn s .refusal) s (poweredOn s .reader)
+unfolding poweredOn
+powered-keeps s =
+    cond-elim (λ (p : PoweredOn). Keeps (p .refusal) s (p .reader)) (badState s) (λ bad refused. refl) (λ good refused. absurd (refused refl))
 
 -- steps 3 to 6, by what the memory says
 pub framed-by : {k : Repeat} (s : Reader) (header antenna store out content : List ℕ)
@@ -126,3 +138,29 @@ module _ (s : Reader) (event : Name) (content header antenna store out : List �
       of (tooLong good kept long over) = refused TooLong refl
       of (request good lent bad) = refused BadRequest refl
       of (steps good lent fine) = does lent fine
+
+  -- the steps refuse nothing
+  judged-fine : (identifier code : ℕ) («data» : List ℕ) (k : Acceptance)
+      → judged s header antenna store out identifier code «data» k .refusal ≡ 0
+  judged-fine identifier code «data» (Accepted command) = refl
+  judged-fine identifier code «data» (Refused fault) = refl
+
+  recalled-fine : (identifier code : ℕ) («data» : List ℕ) (k : Repeat)
+      → recalled s header antenna store out identifier code «data» k .refusal ≡ 0
+  recalled-fine identifier code «data» (Stored length) = refl
+  recalled-fine identifier code «data» New = judged-fine identifier code «data» (acceptance code «data»)
+
+  steps-fine : (asked : Asking) → stepped s header antenna store out asked content .refusal ≡ 0
+  unfolding framed
+  steps-fine Nothing = refl
+  steps-fine Wrong = refl
+  steps-fine Right = recalled-fine (identifierOf content) (commandOf content) (dataOf content) (find (s .memory) (identifierOf content) (commandOf content))
+
+  -- so a refused call leaves the reader and both buffers as before
+  pub answered-keeps : let a = answered s event content header antenna store out in
+      Keeps (a .refusal) s (a .reader) × Keeps (a .refusal) store (a .store) × Keeps (a .refusal) out (a .out)
+  answered-keeps =
+      row-elim (λ (a : Answered). Keeps (a .refusal) s (a .reader) × Keeps (a .refusal) store (a .store) × Keeps (a .refusal) out (a .out))
+      (λ why number. ((λ refused. refl), (λ refused. refl), (λ refused. refl)))
+      (λ lent fine. let none = steps-fine (asking event) in
+      ((λ refused. absurd (refused none)), (λ refused. absurd (refused none)), (λ refused. absurd (refused none))))

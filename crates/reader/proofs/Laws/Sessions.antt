@@ -27,7 +27,7 @@ use Rattle.reader.specs.Asking.{asking}
 use Rattle.reader.specs.Replies.{replyImage}
 use Rattle.reader.specs.Answering.{fresh, badState, PoweredOn, Answered, Lent, answering, sending, judged, stepped, answered}
 use Rattle.reader.specs.Sending.{sent}
-use Rattle.reader.specs.Sessions.{Executed, imageOf, History, begun, forgetting, repeats, next, nextBy, judgedReply, toSend, isRepeat, Kept, Session, made, powered, called}
+use Rattle.reader.specs.Sessions.{Executed, imageOf, History, begun, poweredBy, repeats, next, nextBy, judgedReply, toSend, isRepeat, Kept, Session, made, powered, called}
 use Rattle.reader.proofs.Laws.Answering.{powers-on, front-is, does-steps, row-elim}
 use Rattle.reader.proofs.Laws.Sending.{sent-store}
 use Rattle.reader.proofs.Laws.Agreeing.{memoryOf, Fits, image-room, framed-told, Agrees, agrees-fresh, agrees-powered, agrees-good, agrees-lent, told-step}
@@ -62,7 +62,7 @@ pub session-agrees : {alone : Bool} {s : Reader} {held : List ℕ} {h : History}
 session-agrees {alone} (made r store is) = subst⁻¹ (λ (s : Reader). Agrees alone s store begun) is (agrees-fresh alone store)
 session-agrees {alone} {held = held} (powered {s} {h = h} se r says) =
     let a = session-agrees se in
-    subst⁻¹ (λ (p : PoweredOn). Agrees alone (p .reader) held (forgetting h)) (says ∙ powers-on s (agrees-good a)) (agrees-powered a)
+    subst⁻¹ (λ (p : PoweredOn). Agrees alone (p .reader) held (poweredBy h (p .refusal))) (says ∙ powers-on s (agrees-good a)) (agrees-powered a)
 session-agrees {alone} (called {s} {h = h} se r event content header antenna store out store′ out′ kept whole says) =
     call-told alone s h (named event) content header antenna store out r (session-agrees se) kept whole says .agrees
 

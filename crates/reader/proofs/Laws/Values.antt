@@ -82,9 +82,12 @@ pub unwritten-value : {alone : Bool} {p : Parameter} {s t : Reader} {held kept :
     → Unwritten alone p s held h t kept k
     → KeptValue alone p h t kept k
 unwritten-value se still = record { session = se; value = refl }
-unwritten-value se (power u r says) =
+unwritten-value {p} {h = h} se (power u r says) =
     let v = unwritten-value se u in
-    record { session = powered (v .session) r says; value = v .value }
+    record {
+      session = powered (v .session) r says;
+      value = cond-elim (λ (l : History). l .value p ≡ h .value p) (eqb (number (r .refusal)) 0) (λ _. v .value) (λ _. v .value);
+    }
 unwritten-value {p} {h = h} se (other {k = k} u r event content header antenna store out store′ out′ kept whole idle says) =
     let v = unwritten-value se u in
     let asked = asking (named event) in

@@ -9,8 +9,10 @@ use native.Mathlib.Omega.{arith}
 use lib.ListN.{length, take}
 use Rattle.ground.specs.declared.refusal.Refusal.the-variants.{BadRequest}
 use Rattle.ground.specs.declared.refusal.Counted.{Counted}
-use Rattle.ground.specs.Refusals.{answered}
+use Rattle.ground.specs.Refusals.{answered, Keeps}
+use Rattle.ground.proofs.Laws.Choice.{cond-elim}
 use Rattle.wire.specs.Writing.{After, after, refusing}
+use Rattle.wire.proofs.Laws.Writing.{written-keeps}
 use Rattle.station.specs.declared.line.Line.the-variants.{Point}
 use Rattle.station.specs.Events.{FRAME}
 use Rattle.link.specs.declared.receiver.Receiver.{Receiver}
@@ -40,6 +42,13 @@ module _ (identifier code : ℕ) («data» out : List ℕ) where
       → pointWritten identifier code «data» out ≡ requestWritten identifier code «data» out
   unfolding requestWritten
   request-written asked = rw asked (point-goes-on identifier code «data» out (accepted-short (accepts code «data» asked)))
+
+  -- a refused call leaves the buffer as before
+  pub request-keeps : Keeps (requestWritten identifier code «data» out .answer .refusal) out (requestWritten identifier code «data» out .out)
+  unfolding requestWritten
+  request-keeps =
+      cond-elim (λ (a : After). Keeps (a .answer .refusal) out (a .out)) (isAccepted (acceptance code «data»))
+      (λ asked. written-keeps (pointContent identifier code «data») out) (λ none refused. refl)
 
   -- where the writer did not refuse, there is a command
   pub written-asks : requestWritten identifier code «data» out .answer .refusal ≡ 0
