@@ -60,7 +60,7 @@ carried said = take (said .length) (said .content)
 abbrev pub brought : ℕ → Side → Said → List ℕ
 brought n side said = eventLine n side (said .event) (carried said)
 
--- in the sense of row 2: more content than a frame may have is TooLong; in the sense of row 1: fewer places from `at` on than the least room
+-- in the sense of row 2: a length over 64, which no content has, is TooLong; in the sense of row 1: fewer places from `at` on than the least room
 -- is NoRoom. Order: 2, 1, as the frame writers'
 unfoldable pub putHeard : ℕ → Side → Said → List ℕ → ℕ → Ended
 putHeard n side said out at =

@@ -1,5 +1,6 @@
 -- The content of a frame on each line.
--- 01, Layout of a frame, the table; 001 and 000, 'Кадр запроса от компьютера считывателю'. Assumes nothing.
+-- 01, Layout of a frame, the table; 001 and 000, 'Кадр запроса от компьютера считывателю' and 'Кадр
+-- ответа считывателя компьютеру'. Assumes nothing.
 use Prim.Native.Nat.{ℕ}
 use mathlib.Core.List.{List, _∷_}
 use Rattle.checks.specs.declared.kind.Check.the-variants.{Fcs, Sum}

@@ -1,5 +1,5 @@
--- Worked examples of the master, as rows of one table. The claim is that each holds; `proofs/Laws/Examples` proves it. 01, Bench examples,
--- 'Master's side' and Mistakes that come easily. Assumes nothing.
+-- Worked examples of the master, as rows of one table. The claim is that each holds; `proofs/Laws/Examples` proves it. 01, 'Master's
+-- side', and Refusal numbers, rows 5 to 9. Assumes nothing.
 use Prim.Native.Nat.{ℕ}
 use mathlib.Core.Path.{_≡_}
 use mathlib.Core.List.{List, [], _∷_}

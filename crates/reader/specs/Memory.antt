@@ -1,5 +1,5 @@
 -- The memory of the last executed command.
--- 01, The point reader, 'State' and step 3; Refusal numbers, row 4. Assumes nothing.
+-- 01, The point reader, 'State' and step 3, and Refusal numbers, row 4; 001, 'О повторном запросе'. Assumes nothing.
 use Prim.Native.Nat.{ℕ}
 use mathlib.Core.Bool.{Bool, false, cond, _&&_}
 use lib.Dec.{eqb, ltb}

@@ -1,5 +1,5 @@
 -- Worked examples of acceptance, the typed writer and the header, as rows of one table. The claim is that each holds; `proofs/Laws/Examples`
--- proves it. 01, Bench examples, The point reader and Mistakes that come easily. Assumes nothing.
+-- proves it. 01, Bench examples, The point reader, and Layout of a frame, of numbers. Assumes nothing.
 use Prim.Native.Nat.{ℕ}
 use mathlib.Core.Path.{_≡_}
 use mathlib.Core.Bool.{true, Bool, false}

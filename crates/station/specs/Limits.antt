@@ -1,4 +1,4 @@
--- The fewest bytes of a content. 01, Layout of a frame, the table: a frame with no data is 4 bytes on both lines. Assumes nothing.
+-- The fewest bytes of a content. 01, Layout of a frame, the table: the least content of a frame is 4 bytes, on both lines. Assumes nothing.
 use Prim.Native.Nat.{ℕ}
 
 abbrev pub leastContent : ℕ

@@ -1,5 +1,5 @@
 -- What one byte means to a receiver, rule by rule.
--- 01, How the receiver moves; the numbers are those of its rules. Assumes nothing.
+-- 01, How the receiver moves; the numbers are those of its rules; 000 and 001, 'Рекомендации по разбору кадра'. Assumes nothing.
 use Prim.Native.Nat.{ℕ, _-_}
 use mathlib.Core.Bool.{cond}
 use lib.Dec.{eqb, ltb, leb}

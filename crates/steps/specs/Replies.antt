@@ -7,6 +7,6 @@ use Rattle.ground.specs.Refusals.{counted}
 use Rattle.wire.specs.Writing.{leaving, putting}
 use Rattle.reader.specs.Limits.{room}
 
--- this content's image was put to the front of a buffer with that room
+-- this content's image was put to the front of a buffer, and is no longer than a reader's buffers are at least
 abbrev pub Fills : ℕ → List ℕ → List ℕ → List ℕ → Type 0
 Fills count out′ content out = (leaving (counted count) out′ ≡ putting content out) × (count ≤ room)

@@ -1,5 +1,5 @@
--- Images written, as rows of one table: the paper's first two, to a buffer that just holds them, to a longer one, and to one that is a byte
--- short. The claim is that each holds; `proofs/Laws/Examples` proves it. 01, Bench examples, P1, P2 and 'room 6 and 5 for P1'. Assumes nothing.
+-- Images written, as rows of one table: P1 to a buffer that just holds it, P2 to a longer one, P1 to one that is a byte short.
+-- The claim is that each holds; `proofs/Laws/Examples` proves it. 01, Bench examples, P1, P2 and 'room 6 and 5 for P1'. Assumes nothing.
 use mathlib.Core.Path.{_≡_}
 use mathlib.Core.List.{List, [], _∷_}
 use Prim.Native.Nat.{ℕ}
