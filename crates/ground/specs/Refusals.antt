@@ -1,4 +1,5 @@
--- The refusals with their numbers, and an answer that counts bytes, in these numbers. 01, Refusal numbers. Assumes nothing.
+-- The refusals with their numbers, an answer that counts bytes in these numbers, and what a refused call leaves. 01, Refusal numbers, the
+-- table and below it. Assumes nothing.
 use Prim.Native.Nat.{ℕ}
 use mathlib.Core.Path.{_≡_}
 use Rattle.ground.specs.declared.refusal.Refusal.{Refusal}
@@ -22,10 +23,6 @@ pub record Answer : Type 0 where
   pub refusal : ℕ
   pub count : ℕ
 
--- 01, below the table: where a call refused, what it was given is as before
-abbrev pub Keeps : {A : Type 0} → ℕ → A → A → Type 0
-Keeps refusal before after = (refusal ≡ 0 → ⊥) → after ≡ before
-
 -- what a call's result says
 abbrev pub answered : Counted → Answer
 answered r = record { refusal = number (r .refusal); count = r .count }
@@ -36,3 +33,7 @@ refused why = record { refusal = number why; count = 0 }
 
 abbrev pub counted : ℕ → Answer
 counted n = record { refusal = 0; count = n }
+
+-- 01, below the table: where a call refused, what it was given is as before
+abbrev pub Keeps : {A : Type 0} → ℕ → A → A → Type 0
+Keeps refusal before after = (refusal ≡ 0 → ⊥) → after ≡ before

@@ -28,8 +28,8 @@ pub struct Reading {
 }
 
 // Reads the reply to a request: its content, the check cut off. Refuses a request that a reader does not accept (BadRequest), a reply
-// with another identifier or none (WrongId), with another command, none or an echoed write (WrongCommand), with data of another length (WrongLength),
-// and a sign that is no answer to this request (WrongReason), in this order.
+// with another identifier or none (WrongId), with another command, none or an echoed write (WrongCommand), with data of another length
+// (WrongLength), and a sign that is no answer to this request (WrongReason), in this order.
 pub fn read_reply(identifier: u8, code: u8, data: &[u8], reply: &[u8]) -> Reading
     ensures { λ r. ⌜ telling (dataOf (now (reply .entry))) r ≡ replyRead identifier code (now («data» .entry)) (now (reply .entry)) ⌝ }
 {

@@ -18,7 +18,8 @@ isCode Marin n = isRead n
 isCode Hid n = isRead n
 isCode Motorola n = eqb n 5
 
--- card codes go high byte first (001, 'Многобайтовые переменные'): the number that bytes stand for, behind one that was read before them
+-- card codes go high byte first (001, 'Многобайтовые переменные'): the number that bytes stand for, behind one that was read before them; the
+-- calls here hand the bytes on as they come
 unfoldable pub highFirst : ℕ → List ℕ → ℕ
 highFirst before [] = before
 highFirst before (b ∷ bs) = highFirst (before * 0x100 + b) bs

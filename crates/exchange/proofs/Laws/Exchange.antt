@@ -29,6 +29,7 @@ use Rattle.reader.proofs.Laws.Executing.{reply-fits}
 use Rattle.reader.proofs.Laws.Sessions.{session-agrees, session-replies}
 use Rattle.master.specs.Reading.{accepting, replyRead}
 use Rattle.master.proofs.Laws.Reading.{reads-nack}
+use Rattle.exchange.specs.Exchanging.{Delivered, Exchanged}
 use Rattle.exchange.proofs.Laws.Mastering.{master-reads}
 
 -- the image of a reply that fits a frame, put anywhere into any stream, is heard there
@@ -37,11 +38,6 @@ module _ (identifier code : ℕ) (reply : Reply) (fits : length (dataIn reply) �
       → Hearing (before ++ (replyImage identifier code reply ++ rest)) m 0 all
       → List·Memᴰ (toldAt (length before + length (replyImage identifier code reply)) FRAME (frontOf identifier code reply)) all
   reply-heard before rest = point-image-listed identifier (commandIn code reply) (dataIn reply) before rest fits
-
--- a reply that is sent in these bytes is heard, and read as what it is
-pub record Delivered (identifier code : ℕ) («data» before : List ℕ) (all : List Told) (bytes : List ℕ) (reply : Reply) : Type 0 where
-  pub heard : List·Memᴰ (toldAt (length before + length bytes) FRAME (frontOf identifier code reply)) all
-  pub reads : replyRead identifier code «data» (frontOf identifier code reply) ≡ accepting reply
 
 delivered : (identifier code : ℕ) («data» bytes before rest : List ℕ) (reply : Reply) {m : Receiver} {all : List Told}
     → length (dataIn reply) ≤ mostData
@@ -57,14 +53,6 @@ delivered identifier code «data» bytes before rest reply {m} {all} fits image 
           (subst (λ (l : List ℕ). Hearing (before ++ (l ++ rest)) m 0 all) image hearing));
       reads = reads;
     }
-
--- a request that is executed, its reply sent, heard, and read: the master accepts it and answers what the reader meant
-pub record Exchanged (h : History) (identifier code : ℕ) («data» header antenna before : List ℕ) (all : List Told)
-    (bytes : List ℕ) : Type 0 where
-  pub command : Command
-  pub asked : acceptance code «data» ≡ Accepted command
-  pub image : bytes ≡ replyImage identifier code (replyTo (h .value) command header antenna)
-  pub reply : Delivered identifier code «data» before all bytes (replyTo (h .value) command header antenna)
 
 pub exchange : {alone : Bool} {s : Reader} {held store′ out′ : List ℕ} {h : History} {command : Command} → Session alone s held h
     → (r : Answer) (identifier code : ℕ) («data» header antenna store out before rest : List ℕ) {m : Receiver} {all : List Told}

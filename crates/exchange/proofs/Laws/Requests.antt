@@ -3,7 +3,6 @@
 use mathlib.Core.Path.{_≡_, refl, sym, ap, _∙_}
 use mathlib.Core.Bool.{Bool, true, false, true≢false}
 use mathlib.Core.List.{List, _∷_, _++_, List·Memᴰ}
-use mathlib.Core.Logic.{_⊎_, inl, inr}
 use Prim.Native.Nat.{ℕ, _+_, _≤_}
 use lib.ListN.{length, take}
 use Rattle.ground.specs.declared.refusal.Counted.{Counted}
@@ -18,46 +17,18 @@ use Rattle.link.specs.Hearing.{Told, toldAt, IsFresh, Hearing}
 use Rattle.request.specs.declared.command.Command.{Command}
 use Rattle.request.specs.declared.command.Acceptance.{Acceptance}
 use Rattle.request.specs.declared.command.Acceptance.the-variants.{Accepted, Refused}
-use Rattle.request.specs.declared.command.Fault.{Fault}
-use Rattle.request.specs.declared.command.Fault.the-variants.{UnknownCode, BadData}
 use Rattle.request.specs.Limits.{headerLength}
-use Rattle.request.specs.Acceptance.{acceptance, nackOf, isAccepted}
-use Rattle.request.specs.Replies.{NACK, sign}
+use Rattle.request.specs.Acceptance.{acceptance, isAccepted}
 use Rattle.request.specs.Requesting.{requestWritten}
 use Rattle.request.proofs.Laws.Acceptance.{accepts, accepted-short}
 use Rattle.request.proofs.Laws.Requesting.{written-asks, refused-asks, request-heard}
 use Rattle.reader.specs.declared.reader.Reader.{Reader}
 use Rattle.reader.specs.declared.reader.Answer.{Answer}
-use Rattle.reader.specs.Replies.{IsAnswer, replyImage, replyTo}
 use Rattle.reader.specs.Answering.{fresh, Answered, answering, Lent, judged, answered}
-use Rattle.reader.specs.Sending.{sent}
-use Rattle.reader.specs.Sessions.{History, begun, judgedNext, repeats, Kept, Session}
+use Rattle.reader.specs.Sessions.{History, begun, repeats, Kept, Session}
 use Rattle.reader.proofs.Laws.Sessions.{fresh-session, session-judges, session-replies, session-on}
 use Rattle.reader.proofs.Laws.Replies.{executed-answer}
-
--- A call executed a request: it sends the reply that the table has for the values written so far, and the session goes on with what the
--- command did, and with it as the last one executed.
-pub record Executes (alone : Bool) (h : History) (identifier code : ℕ) («data» header antenna : List ℕ) (r : Answer) (store out : List ℕ)
-    : Type 0 where
-  pub command : Command
-  pub asked : acceptance code «data» ≡ Accepted command
-  pub fine : refusals.number (r .refusal) ≡ 0
-  pub sends : sent (r .buffer) (r .length) store out ≡ replyImage identifier code (replyTo (h .value) command header antenna)
-  pub reply : IsAnswer (replyTo (h .value) command header antenna)
-  pub goesOn : Session alone (r .reader) store (judgedNext h (identifier ∷ code ∷ «data») header antenna (Accepted command))
-
--- A call answered a request with NACK 2 or 3: it sends that, and neither the reader nor the store changed.
-pub record Refuses (s : Reader) (identifier : ℕ) (store : List ℕ) (r : Answer) (store′ out : List ℕ) : Type 0 where
-  pub number : ℕ
-  pub either : (number ≡ 2) ⊎ (number ≡ 3)
-  pub fine : refusals.number (r .refusal) ≡ 0
-  pub sends : sent (r .buffer) (r .length) store′ out ≡ replyImage identifier sign (NACK number)
-  pub reader : r .reader ≡ s
-  pub kept : store′ ≡ store
-
-two-or-three : (fault : Fault) → (nackOf fault ≡ 2) ⊎ (nackOf fault ≡ 3)
-two-or-three UnknownCode = inl refl
-two-or-three BadData = inr refl
+use Rattle.exchange.specs.Exchanging.{Executes, Refuses}
 
 -- a call of a session on a FRAME that repeats nothing, with good buffers
 module _ {alone : Bool} {s : Reader} {held store′ out′ : List ℕ} {h : History} (se : Session alone s held h) (r : Answer) (identifier code : ℕ)
@@ -95,13 +66,13 @@ module _ {alone : Bool} {s : Reader} {held store′ out′ : List ℕ} {h : Hist
       judge-executes (written-asks identifier code «data» room (sym (ap (λ (a : After). a .answer .refusal) wrote) ∙ done) .1)
 
   judge-refuses : (k : Acceptance) → acceptance code «data» ≡ k → isAccepted k ≡ false → length «data» ≤ mostData
-      → Refuses s identifier store r store′ out′
+      → Refuses s identifier code «data» store r store′ out′
   judge-refuses (Refused fault) asked bad short =
       let judged = judges asked short in
       let fine = ap (λ (a : Answered). a .refusal) judged in
       record {
-        number = nackOf fault;
-        either = two-or-three fault;
+        fault = fault;
+        asked = asked;
         fine = fine;
         sends = session-replies se r content header antenna store out kept whole says fine new asked;
         reader = ap (λ (a : Answered). a .reader) judged;
@@ -113,7 +84,7 @@ module _ {alone : Bool} {s : Reader} {held store′ out′ : List ℕ} {h : Hist
   pub refused-nacked : (w : Counted) (room : List ℕ) {wrote : List ℕ} → after w wrote ≡ requestWritten identifier code «data» room
       → refusals.answered w .refusal ≡ 5
       → length «data» ≤ mostData
-      → Refuses s identifier store r store′ out′
+      → Refuses s identifier code «data» store r store′ out′
   refused-nacked w room wrote bad short =
       judge-refuses (acceptance code «data») refl
       (refused-asks identifier code «data» room (sym (ap (λ (a : After). a .answer .refusal) wrote) ∙ bad)) short
@@ -135,8 +106,9 @@ module _ {store′ out′ : List ℕ} (r : Answer) (identifier code : ℕ) («da
     request-executed (fresh-session store) r identifier code «data» header antenna store out refl refl whole lent says w room wrote done,
   )
 
+  -- and what the writer refused with 5, if a frame can carry it, is answered NACK 2 or 3
   pub fresh-refuses : (w : Counted) (room : List ℕ) {wrote : List ℕ} → after w wrote ≡ requestWritten identifier code «data» room
       → refusals.answered w .refusal ≡ 5
       → length «data» ≤ mostData
-      → Refuses fresh identifier store r store′ out′
+      → Refuses fresh identifier code «data» store r store′ out′
   fresh-refuses = refused-nacked {alone = true} (fresh-session store) r identifier code «data» header antenna store out refl refl whole lent says

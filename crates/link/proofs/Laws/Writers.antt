@@ -46,8 +46,6 @@ module _ (never : Bool) («data» content out : List ℕ) where
       → written never «data» content out ≡ putting content out
   writes fits good room = goes-on fits good ∙ written-whole content out room
 
-  -- ---- and only then: of the answer that was given, the row's conditions hold
-
   -- a refused call leaves the buffer as before
   written-keeps : Keeps (written never «data» content out .answer .refusal) out (written never «data» content out .out)
   unfolding written
@@ -57,6 +55,8 @@ module _ (never : Bool) («data» content out : List ℕ) where
     where
       P : After → Type 0
       P a = Keeps (a .answer .refusal) out (a .out)
+
+  -- ---- and only then: of the answer that was given, the row's conditions hold
 
   pub by-table : ByTable never «data» content out (written never «data» content out)
   unfolding written imageWritten

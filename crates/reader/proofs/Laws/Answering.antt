@@ -150,7 +150,7 @@ module _ (s : Reader) (event : Name) (content header antenna store out : List �
   recalled-fine identifier code «data» (Stored length) = refl
   recalled-fine identifier code «data» New = judged-fine identifier code «data» (acceptance code «data»)
 
-  steps-fine : (asked : Asking) → stepped s header antenna store out asked content .refusal ≡ 0
+  pub steps-fine : (asked : Asking) → stepped s header antenna store out asked content .refusal ≡ 0
   unfolding framed
   steps-fine Nothing = refl
   steps-fine Wrong = refl
