@@ -21,7 +21,7 @@ pub each-holds : Each Holds examples
 unfolding stuffed stuffing image shiftStep shiftSteps byteStep run residue fcs fcsBytes total sum checkOf withCheck pointContent addressedContent imageWritten written
     pointWritten addressedWritten front came alike isRight takes kept plain partner contentByte inside within turn verdict moved outcome heard received note tells
 each-holds =
-    refl and refl and refl and refl and refl and refl and refl and refl and refl and refl and refl and refl
+    refl and refl and refl and refl and refl and refl and refl and refl and refl and refl and refl
     and refl and refl and refl and refl and refl and refl and refl and refl and refl and refl and refl and refl
     and refl and refl and refl and refl and refl and refl and refl and refl and refl and refl and refl and refl
     and refl and refl and refl
