@@ -60,8 +60,8 @@ carried said = take (said .length) (said .content)
 abbrev pub brought : ℕ → Side → Said → List ℕ
 brought n side said = eventLine n side (said .event) (carried said)
 
--- in the sense of row 2: a length over 64, which no content has, is TooLong; in the sense of row 1: fewer places from `at` on than the least room
--- is NoRoom. Order: 2, 1, as the frame writers'
+-- in the sense of row 2: a length over 64, which no content has, is TooLong; in the sense of row 1: fewer places from `at` on than the
+-- least room is NoRoom. Order: 2, 1, as the frame writers'
 unfoldable pub putHeard : ℕ → Side → Said → List ℕ → ℕ → Ended
 putHeard n side said out at =
     cond (ltb mostContent (said .length)) (unplaced TooLong out at)

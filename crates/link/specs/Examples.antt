@@ -61,7 +61,7 @@ examples =
     -- room 6 and 5 for P1
     ∷ pointWrites 0x00 0x00 [] 6 0 6
     ∷ pointWrites 0x00 0x00 [] 5 1 0
-    -- data 60 and 61, on both lines; TooLong before BadAddress before NoRoom
+    -- data 60 and 61; TooLong before BadAddress before NoRoom
     ∷ pointWrites 0x00 0x10 (replicate 61 0x11) 66 2 0
     ∷ addressedWrites 0x05 0x01 0x10 (replicate 60 0x11) 66 0 66
     ∷ addressedWrites 0xFD 0x01 0x10 (replicate 61 0x11) 0 2 0
