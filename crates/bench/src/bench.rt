@@ -1,10 +1,12 @@
 // What lives from record to record.
 use crate::buffer::MOST_LENGTH;
 use crate::buffer::UNTOUCHED;
-use crate::line::put_short;
-use link::receiver::Receiver;
+use crate::line::Text;
+use link::receiver::fresh_addressed;
+use link::receiver::fresh_point;
 use reader::reader::Reader;
 use station::line::MASTER;
+use station::receiver::Receiver;
 
 // A receiver of each line, and a point reader with its two buffers.
 pub(crate) struct Bench {
@@ -15,17 +17,17 @@ pub(crate) struct Bench {
     pub(crate) out: [u8; MOST_LENGTH],
 }
 
-// After a record: what lives on, and where the record's line ends.
+// After a record: what lives on, and the record's line.
 pub(crate) struct Done {
     pub(crate) bench: Bench,
-    pub(crate) end: usize,
+    pub(crate) text: Text,
 }
 
 impl Bench {
     pub(crate) fn fresh() -> Bench {
-        let addressed = Receiver::addressed(MASTER).receiver;
+        let addressed = fresh_addressed(MASTER).receiver;
         Bench {
-            point: Receiver::point(),
+            point: fresh_point(),
             addressed,
             reader: Reader::fresh(),
             store: [UNTOUCHED; MOST_LENGTH],
@@ -33,13 +35,13 @@ impl Bench {
         }
     }
 
-    // A record that leaves this bench behind, and a line that ends here.
-    pub(crate) fn done(self, end: usize) -> Done {
-        Done { bench: self, end }
+    // A record that leaves this bench behind, and wrote this line.
+    pub(crate) fn done(self, text: Text) -> Done {
+        Done { bench: self, text }
     }
 
     // A payload that is shorter than its fixed part changes nothing.
-    pub(crate) fn short(self, text: &mut [u8], at: usize) -> Done {
-        self.done(put_short(text, at))
+    pub(crate) fn short(self, text: Text) -> Done {
+        self.done(text.short())
     }
 }

@@ -13,15 +13,11 @@ mod writers;
 
 use bench::Bench;
 use buffer::front;
-use ground::laying::put;
-use line::MOST_LINE;
-use line::print;
-use line::put_number;
+use line::Text;
 use op::Op;
 use op::perform;
 use script::Next;
 use script::read_record;
-use text::hex::put_pairs;
 
 // What lives on after a turn, and whether another one follows.
 struct Turn {
@@ -61,20 +57,17 @@ fn take_turn(bench: Bench, records: usize) -> Turn {
 
 // Does what the op asks for and writes the record's line.
 fn write_line(bench: Bench, op: Op, code: u8, payload: &[u8]) -> Turn {
-    let mut text = [0u8; MOST_LINE];
-    let at = put_pairs(&[code], &mut text, 0).end;
-    let done = perform(bench, op, payload, &mut text, at);
+    let text = Text::empty().with_pairs(&[code]);
+    let done = perform(bench, op, payload, text);
     let bench = done.bench;
-    let goes_on = print(&mut text, done.end);
+    let text = done.text;
+    let goes_on = text.print();
     Turn { bench, goes_on }
 }
 
 // Writes the last line: how the script ended, and how many records were done.
 fn write_last(bench: Bench, ending: &[u8], records: usize) -> Turn {
-    let mut text = [0u8; MOST_LINE];
-    let at = put(ending, &mut text, 0).end;
-    let at = put_number(records, &mut text, at);
-    print(&mut text, at);
+    Text::empty().with(ending).number(records).print();
     Turn {
         bench,
         goes_on: false,

@@ -1,6 +1,7 @@
 // The ops of a script.
 use crate::bench::Bench;
 use crate::bench::Done;
+use crate::line::Text;
 use crate::masters::put_reading;
 use crate::masters::put_request;
 use crate::readers::answer;
@@ -63,22 +64,22 @@ pub(crate) fn with_code(code: u8) -> Coded {
 }
 
 // Does what the op asks for with this payload, and puts its fields.
-pub(crate) fn perform(bench: Bench, op: Op, payload: &[u8], text: &mut [u8], at: usize) -> Done {
+pub(crate) fn perform(bench: Bench, op: Op, payload: &[u8], text: Text) -> Done {
     match op {
-        Op::PointFrame => bench.done(put_point_frame(payload, text, at)),
-        Op::AddressedFrame => bench.done(put_addressed_frame(payload, text, at)),
-        Op::ImageLength => bench.done(put_image_length(payload, text, at)),
-        Op::Fcs => bench.done(put_fcs(payload, text, at)),
-        Op::Sum => bench.done(put_sum(payload, text, at)),
-        Op::HearPoint => hear_point(bench, payload, text, at),
-        Op::NewStation => new_station(bench, payload, text, at),
-        Op::HearAddressed => hear_addressed(bench, payload, text, at),
-        Op::SetReceiver => set_receiver(bench, payload, text, at),
-        Op::Answer => answer(bench, payload, text, at),
-        Op::PowerOn => power_on(bench, text, at),
-        Op::SetReader => set_reader(bench, payload, text, at),
-        Op::Buffers => put_buffers(bench, text, at),
-        Op::Request => bench.done(put_request(payload, text, at)),
-        Op::Reading => bench.done(put_reading(payload, text, at)),
+        Op::PointFrame => bench.done(put_point_frame(payload, text)),
+        Op::AddressedFrame => bench.done(put_addressed_frame(payload, text)),
+        Op::ImageLength => bench.done(put_image_length(payload, text)),
+        Op::Fcs => bench.done(put_fcs(payload, text)),
+        Op::Sum => bench.done(put_sum(payload, text)),
+        Op::HearPoint => hear_point(bench, payload, text),
+        Op::NewStation => new_station(bench, payload, text),
+        Op::HearAddressed => hear_addressed(bench, payload, text),
+        Op::SetReceiver => set_receiver(bench, payload, text),
+        Op::Answer => answer(bench, payload, text),
+        Op::PowerOn => power_on(bench, text),
+        Op::SetReader => set_reader(bench, payload, text),
+        Op::Buffers => put_buffers(bench, text),
+        Op::Request => bench.done(put_request(payload, text)),
+        Op::Reading => bench.done(put_reading(payload, text)),
     }
 }

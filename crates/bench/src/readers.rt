@@ -4,10 +4,7 @@ use crate::bench::Done;
 use crate::buffer::front;
 use crate::buffer::front_mut;
 use crate::buffer::length;
-use crate::line::put_bytes;
-use crate::line::put_number;
-use crate::line::put_refusal;
-use crate::line::put_word;
+use crate::line::Text;
 use reader::buffer::Buffer;
 use reader::buffer::to_send;
 use reader::memory::Memory;
@@ -27,14 +24,14 @@ struct Rooms {
 }
 
 // Payload: event, antenna count, store room, out room, antenna, content.
-pub(crate) fn answer(bench: Bench, payload: &[u8], text: &mut [u8], at: usize) -> Done {
+pub(crate) fn answer(bench: Bench, payload: &[u8], text: Text) -> Done {
     if payload.len() < 4 {
-        return bench.short(text, at);
+        return bench.short(text);
     }
     let count = length(payload[1]);
     let rest = &payload[4..];
     if rest.len() < count {
-        return bench.short(text, at);
+        return bench.short(text);
     }
     let rooms = Rooms {
         store: length(payload[2]),
@@ -42,7 +39,7 @@ pub(crate) fn answer(bench: Bench, payload: &[u8], text: &mut [u8], at: usize) -
     };
     let antenna = front(rest, count);
     let content = &rest[count..];
-    answer_event(bench, event(payload[0]), content, antenna, rooms, text, at)
+    answer_event(bench, event(payload[0]), content, antenna, rooms, text)
 }
 
 fn answer_event(
@@ -51,8 +48,7 @@ fn answer_event(
     content: &[u8],
     antenna: &[u8],
     rooms: Rooms,
-    text: &mut [u8],
-    at: usize,
+    text: Text,
 ) -> Done {
     let reader = bench.reader;
     let mut store = bench.store;
@@ -75,8 +71,8 @@ fn answer_event(
     bench.out = out;
     let store_front = front(&store, rooms.store);
     let out_front = front(&out, rooms.out);
-    let at = put_answer(answer, store_front, out_front, text, at);
-    bench.done(put_reader(reader, text, at))
+    let text = put_answer(answer, store_front, out_front, text);
+    bench.done(put_reader(reader, text))
 }
 
 // The bytes 00, 01, .. 27: a name of 20 bytes, and five numbers, low byte first.
@@ -104,71 +100,60 @@ fn event(byte: u8) -> Event {
     }
 }
 
-fn put_answer<'a>(
-    answer: Answer,
-    store: &'a [u8],
-    out: &'a [u8],
-    text: &mut [u8],
-    at: usize,
-) -> usize {
+fn put_answer<'a>(answer: Answer, store: &'a [u8], out: &'a [u8], text: Text) -> Text {
     let refusal = answer.refusal;
     let buffer = answer.buffer;
     let length = answer.length;
-    let at = put_refusal(refusal, text, at);
-    let at = put_buffer(buffer, text, at);
-    let at = put_number(length, text, at);
-    put_bytes(to_send(buffer, length, store, out), text, at)
+    put_buffer(buffer, text.refusal(refusal))
+        .number(length)
+        .bytes(to_send(buffer, length, store, out))
 }
 
-fn put_buffer(buffer: Buffer, text: &mut [u8], at: usize) -> usize {
+fn put_buffer(buffer: Buffer, text: Text) -> Text {
     match buffer {
-        Buffer::Out => put_word(b"out", text, at),
-        Buffer::Store => put_word(b"store", text, at),
+        Buffer::Out => text.word(b"out"),
+        Buffer::Store => text.word(b"store"),
     }
 }
 
 // The reader's record: the parameters, and the last executed command with its length.
-fn put_reader(reader: Reader, text: &mut [u8], at: usize) -> usize {
+fn put_reader(reader: Reader, text: Text) -> Text {
     let parameters = reader.parameters;
     let settings = parameters.settings;
     let cell = parameters.cell;
-    let at = put_bytes(&[parameters.speed], text, at);
-    let at = put_bytes(&settings, text, at);
-    let at = put_bytes(&cell, text, at);
+    let text = text.bytes(&[parameters.speed])
+        .bytes(&settings)
+        .bytes(&cell);
     let memory = reader.memory;
     match memory {
-        Memory::None => put_word(b"- -", text, at),
+        Memory::None => text.word(b"- -"),
         Memory::Last {
             identifier,
             command,
             length,
-        } => {
-            let at = put_bytes(&[identifier, command], text, at);
-            put_number(length, text, at)
-        }
+        } => text.bytes(&[identifier, command]).number(length),
     }
 }
 
-pub(crate) fn power_on(mut bench: Bench, text: &mut [u8], at: usize) -> Done {
+pub(crate) fn power_on(mut bench: Bench, text: Text) -> Done {
     let reader = bench.reader;
     let powered = reader.power_on();
     let refusal = powered.refusal;
     let reader = powered.reader;
     bench.reader = reader;
-    let at = put_refusal(refusal, text, at);
-    bench.done(put_reader(reader, text, at))
+    bench.done(put_reader(reader, text.refusal(refusal)))
 }
 
 // Payload: speed, parameter 05, parameter 80, has, identifier, command, length. Puts no field.
-pub(crate) fn set_reader(mut bench: Bench, payload: &[u8], text: &mut [u8], at: usize) -> Done {
+pub(crate) fn set_reader(mut bench: Bench, payload: &[u8], text: Text) -> Done {
     if payload.len() < 17 {
-        return bench.short(text, at);
+        return bench.short(text);
     }
     let parameters = parameters(payload);
     let memory = memory(payload);
     let reader = Reader { parameters, memory };
     bench.reader = reader;
-    bench.done(at)
+    bench.done(text)
 }
 
 fn parameters(payload: &[u8]) -> Parameters
@@ -205,9 +190,8 @@ fn memory(payload: &[u8]) -> Memory
     }
 }
 
-pub(crate) fn put_buffers(bench: Bench, text: &mut [u8], at: usize) -> Done {
+pub(crate) fn put_buffers(bench: Bench, text: Text) -> Done {
     let out = bench.out;
     let store = bench.store;
-    let at = put_bytes(&out, text, at);
-    bench.done(put_bytes(&store, text, at))
+    bench.done(text.bytes(&out).bytes(&store))
 }

@@ -3,75 +3,73 @@ use crate::bench::Bench;
 use crate::bench::Done;
 use crate::buffer::front;
 use crate::buffer::length;
-use crate::line::put_bytes;
-use crate::line::put_number;
-use crate::line::put_refusal;
-use crate::line::put_word;
+use crate::line::Text;
 use ground::refusal::number;
-use link::receiver::Heard;
-use link::receiver::Receiver;
+use link::receiver::fresh_addressed;
+use link::receiver::receive;
 use station::event::Event;
 use station::line::Line;
 use station::phase::Phase;
+use station::receiver::Heard;
+use station::receiver::Receiver;
 use wire::limits::MOST_CONTENT;
 
-pub(crate) fn hear_point(mut bench: Bench, piece: &[u8], text: &mut [u8], at: usize) -> Done {
+pub(crate) fn hear_point(mut bench: Bench, piece: &[u8], text: Text) -> Done {
     let receiver = bench.point;
-    let heard = receiver.receive(piece);
+    let heard = receive(receiver, piece);
     let receiver = heard.receiver;
     bench.point = receiver;
-    bench.done(put_heard(heard, text, at))
+    bench.done(put_heard(heard, text))
 }
 
-pub(crate) fn hear_addressed(mut bench: Bench, piece: &[u8], text: &mut [u8], at: usize) -> Done {
+pub(crate) fn hear_addressed(mut bench: Bench, piece: &[u8], text: Text) -> Done {
     let receiver = bench.addressed;
-    let heard = receiver.receive(piece);
+    let heard = receive(receiver, piece);
     let receiver = heard.receiver;
     bench.addressed = receiver;
-    bench.done(put_heard(heard, text, at))
+    bench.done(put_heard(heard, text))
 }
 
-fn put_heard(heard: Heard, text: &mut [u8], at: usize) -> usize {
+fn put_heard(heard: Heard, text: Text) -> Text {
     let refusal = heard.refusal;
     let event = heard.event;
     let content = heard.content;
     let length = heard.length;
-    let at = put_refusal(refusal, text, at);
-    let at = put_event(event, text, at);
-    let at = put_number(heard.taken, text, at);
-    put_bytes(front(&content, length), text, at)
+    put_event(event, text.refusal(refusal))
+        .number(heard.taken)
+        .bytes(front(&content, length))
 }
 
-fn put_event(event: Event, text: &mut [u8], at: usize) -> usize {
+fn put_event(event: Event, text: Text) -> Text {
     match event {
-        Event::None => put_word(b"NONE", text, at),
-        Event::Frame => put_word(b"FRAME", text, at),
-        Event::Check => put_word(b"CHECK", text, at),
-        Event::Short => put_word(b"SHORT", text, at),
-        Event::Long => put_word(b"LONG", text, at),
-        Event::Pair => put_word(b"PAIR", text, at),
-        Event::Addr => put_word(b"ADDR", text, at),
+        Event::None => text.word(b"NONE"),
+        Event::Frame => text.word(b"FRAME"),
+        Event::Check => text.word(b"CHECK"),
+        Event::Short => text.word(b"SHORT"),
+        Event::Long => text.word(b"LONG"),
+        Event::Pair => text.word(b"PAIR"),
+        Event::Addr => text.word(b"ADDR"),
     }
 }
 
 // Payload: address. Where it is refused the receiver stays.
-pub(crate) fn new_station(mut bench: Bench, payload: &[u8], text: &mut [u8], at: usize) -> Done {
+pub(crate) fn new_station(mut bench: Bench, payload: &[u8], text: Text) -> Done {
     if payload.len() < 1 {
-        return bench.short(text, at);
+        return bench.short(text);
     }
-    let fresh = Receiver::addressed(payload[0]);
+    let fresh = fresh_addressed(payload[0]);
     let refusal = fresh.refusal;
     if number(refusal) == 0 {
         let receiver = fresh.receiver;
         bench.addressed = receiver;
     }
-    bench.done(put_refusal(refusal, text, at))
+    bench.done(text.refusal(refusal))
 }
 
 // Payload: line, address, phase, count, fill. Puts no field.
-pub(crate) fn set_receiver(mut bench: Bench, payload: &[u8], text: &mut [u8], at: usize) -> Done {
+pub(crate) fn set_receiver(mut bench: Bench, payload: &[u8], text: Text) -> Done {
     if payload.len() < 5 {
-        return bench.short(text, at);
+        return bench.short(text);
     }
     let line = if payload[0] == 0 {
         Line::Point
@@ -88,7 +86,7 @@ pub(crate) fn set_receiver(mut bench: Bench, payload: &[u8], text: &mut [u8], at
         Line::Point => bench.point = receiver,
         Line::Addressed(_) => bench.addressed = receiver,
     }
-    bench.done(at)
+    bench.done(text)
 }
 
 fn phase(byte: u8) -> Phase {

@@ -3,7 +3,8 @@ use ground::laying::room;
 use lines::event_line::put_heard;
 use lines::limits::LEAST_ROOM;
 use lines::side::Side;
-use link::receiver::Receiver;
+use link::receiver::receive;
+use station::receiver::Receiver;
 use tape::limits::MOST_RECORDS;
 use tape::next::ADDRESSED;
 use tape::next::POINT;
@@ -11,7 +12,7 @@ ghost use mathlib.Core.Path.{_≡_};
 ghost use mathlib.Core.Bool.{false};
 ghost use Prim.Native.Nat.{_+_, _-_, _≤_, _<_};
 ghost use lib.ListN.{length, take};
-ghost use Rattle.link.specs.Receiving.{badState};
+ghost use Rattle.station.specs.Receiving.{badState};
 ghost use Rattle.tape.specs.Limits.{mostRecords};
 ghost use Rattle.tape.specs.Whole.{kindOf};
 ghost use Rattle.chunks.specs.Running.{Least, Gathered, left, leaving, running, Heard as HeardOf};
@@ -100,7 +101,7 @@ fn hear(
     let mut count: usize = 0;
     let mut end = at;
     while count < bodies.len() && room(out, end) >= LEAST_ROOM {
-        let heard = receiver.receive(&bodies[count..]);
+        let heard = receive(receiver, &bodies[count..]);
         receiver = heard.receiver;
         count += heard.taken;
         let placed = put_heard(records + (count - 1) as u32, side, heard, out, end);

@@ -2,7 +2,8 @@
 // and prints the content of the frame that it hears.
 use ground::laying::put;
 use libc::STDOUT_FILENO;
-use link::receiver::Receiver;
+use link::receiver::fresh_point;
+use link::receiver::receive;
 use link::writer::write_point;
 use station::event::Event;
 use text::hex::put_pairs;
@@ -21,7 +22,7 @@ fn main() {
     let count = written.count;
     check::expect(count == 6);
     print(&out[..count]);
-    let heard = Receiver::point().receive(&out[..count]);
+    let heard = receive(fresh_point(), &out[..count]);
     let event = heard.event;
     let Event::Frame = event else {
         return;

@@ -7,7 +7,7 @@ use Prim.Native.Nat.{ℕ, _+_}
 use lib.ListN.{length}
 use Rattle.ground.specs.Refusals.{number}
 use Rattle.station.specs.Events.{FRAME}
-use Rattle.link.specs.Hearing.{Told, toldAt}
+use Rattle.station.specs.Hearing.{Told, toldAt}
 use Rattle.request.specs.declared.command.Command.{Command}
 use Rattle.request.specs.declared.command.Acceptance.the-variants.{Accepted, Refused}
 use Rattle.request.specs.declared.command.Fault.{Fault}

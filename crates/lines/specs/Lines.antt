@@ -9,7 +9,7 @@ use Rattle.ground.specs.declared.refusal.Refusal.the-variants.{NoRoom, TooLong}
 use Rattle.ground.specs.Laying.{Ended, unplaced, placed}
 use Rattle.wire.specs.Limits.{mostContent}
 use Rattle.station.specs.Events.{Name, NONE, FRAME, CHECK, SHORT, LONG, PAIR, ADDR}
-use Rattle.link.specs.Receiving.{Said}
+use Rattle.station.specs.Receiving.{Said}
 use Rattle.text.specs.Ascii.{ascii}
 use Rattle.text.specs.Decimal.{decimal}
 use Rattle.text.specs.Hex.{pairs}

@@ -7,7 +7,7 @@ use ground::refusal::Refusal;
 use station::line::LAST_ADDRESS;
 ghost use mathlib.Core.Path.{_≡_};
 ghost use Rattle.wire.specs.Writing.{after};
-ghost use Rattle.link.specs.Writers.{pointWritten, addressedWritten};
+ghost use Rattle.station.specs.Writers.{pointWritten, addressedWritten};
 
 // Writes the image of a point frame to the front of `out`, and answers its length. Refuses data over 60 bytes (TooLong) and `out`
 // shorter than the image (NoRoom), in this order; a refusal leaves `out` as it was.

@@ -2,7 +2,7 @@
 -- Assumes nothing.
 use Prim.Native.Nat.{ℕ, _+_}
 use Rattle.wire.specs.Limits.{mostImage}
-use Rattle.link.specs.Limits.{mostData}
+use Rattle.station.specs.Limits.{mostData}
 
 -- 01, The point reader: a store and an out buffer, each of at least 130 bytes, which hold the image of any frame
 abbrev pub room : ℕ

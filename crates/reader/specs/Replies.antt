@@ -6,7 +6,7 @@ use mathlib.Core.Bool.{cond}
 use mathlib.Core.List.{List}
 use lib.ListN.{length}
 use Rattle.wire.specs.Image.{image}
-use Rattle.link.specs.Frame.{pointContent}
+use Rattle.station.specs.Frame.{pointContent}
 use Rattle.request.specs.declared.parameter.Parameter.{Parameter}
 use Rattle.request.specs.declared.command.Command.{Command}
 use Rattle.request.specs.declared.command.Command.the-variants.{Header, Write, Read, Card}

@@ -5,7 +5,7 @@ use mathlib.Core.Bool.{cond}
 use mathlib.Core.List.{List}
 use Rattle.ground.specs.declared.refusal.Refusal.the-variants.{BadRequest}
 use Rattle.wire.specs.Writing.{After, refusing, imageWritten}
-use Rattle.link.specs.Frame.{pointContent}
+use Rattle.station.specs.Frame.{pointContent}
 use Rattle.request.specs.Acceptance.{acceptance, isAccepted}
 
 -- a request that step 4 or 5 would refuse is BadRequest; else the frame's image, if there is room for it

@@ -1,5 +1,19 @@
 -- Theorems about the definitions of specs/, each with the noun it speaks of.
 pub mod Address
+pub mod Frame
+pub mod Writers
 pub mod Turning
 pub mod Events
+pub mod Fit
+pub mod Receiving
+pub mod Bytes
+pub mod View
+pub mod Fresh
+pub mod Cuts
+pub mod Crew
+pub mod Desk
+pub mod Demand
+pub mod Hearing
+pub mod Listed
+pub mod Unique
 pub mod Examples

@@ -1,9 +1,16 @@
--- What a reader of this library must believe: what one byte means to a station. Read Address, Line and Limits beside document 01, 'The two
--- lines' and 'Layout of a frame'; Events, Turning, Rules and Examples beside 'How the receiver moves'.
+-- What a reader of this library must believe: what a station writes and hears. Read Limits, Address, Line and Frame beside document 01, 'The
+-- two lines' and 'Layout of a frame'; Writers, what each frame writer answers, beside that and 'Refusal numbers'; Events, Turning and Rules
+-- beside 'How the receiver moves', and Receiving, what each call of a receiver answers, beside that and 'Refusal numbers'; Hearing and Listing as
+-- the rule that crew and desk signed; Examples beside 'Bench examples'.
 pub mod Limits
 pub mod Address
 pub mod Line
+pub mod Frame
+pub mod Writers
 pub mod Events
 pub mod Turning
 pub mod Rules
+pub mod Receiving
+pub mod Hearing
+pub mod Listing
 pub mod Examples

@@ -1,6 +1,8 @@
-// What one byte means to a station: the two lines and their addresses, where a receiver is, and what it tells.
+// What a station hears, as types alone: the two lines and their addresses, what one byte makes a receiver do, its record, and what it tells.
+// The functions are in the rooms above.
 pub mod event;
 pub mod limits;
 pub mod line;
 pub mod phase;
+pub mod receiver;
 pub mod turn;

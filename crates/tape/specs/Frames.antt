@@ -5,7 +5,7 @@ use mathlib.Core.Path.{_≡_}
 use mathlib.Core.List.{List, [], _∷_, _++_, List·Memᴰ}
 use lib.ListN.{length}
 use Rattle.station.specs.Events.{FRAME}
-use Rattle.link.specs.Listing.{Stands}
+use Rattle.station.specs.Listing.{Stands}
 use Rattle.lines.specs.declared.side.Side.{Side}
 use Rattle.lines.specs.declared.side.Side.the-variants.{Point, Addressed}
 use Rattle.tape.specs.Whole.{Record, heard, Entry, entry, lineOn}

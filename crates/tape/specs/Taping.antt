@@ -9,7 +9,7 @@ use Rattle.ground.specs.declared.refusal.Refusal.{Refusal}
 use Rattle.ground.specs.declared.refusal.Refusal.the-variants.{NoRoom, BadState}
 use Rattle.ground.specs.Refusals.{number}
 use Rattle.ground.specs.Laying.{laid}
-use Rattle.link.specs.Receiving.{badState, received}
+use Rattle.station.specs.Receiving.{badState, received}
 use Rattle.lines.specs.declared.ends.Ending.{Ending}
 use Rattle.lines.specs.declared.ends.Ending.the-variants.{End as END, Cut as CUT, Bad as BAD, Full as FULL}
 use Rattle.lines.specs.Limits.{leastRoom}

@@ -1,10 +1,13 @@
 // The receivers of both lines of a tape.
 use ground::refusal::number;
 use lines::side::Side;
-use link::receiver::Receiver;
+use link::receiver::fresh_addressed;
+use link::receiver::fresh_point;
+use link::receiver::receive;
 use station::line::MASTER;
+use station::receiver::Receiver;
 ghost use mathlib.Core.Path.{_≡_};
-ghost use Rattle.link.specs.Receiving.{badState};
+ghost use Rattle.station.specs.Receiving.{badState};
 ghost use Rattle.tape.specs.Whole.{freshReceivers, on as onSide, turned as turnedOn};
 ghost use Rattle.tape.specs.Taping.{badReceivers};
 
@@ -17,10 +20,10 @@ impl Receivers {
     pub(crate) fn fresh() -> Receivers
         ensures { λ r. ⌜ r ≡ freshReceivers ⌝ }
     {
-        let made = Receiver::addressed(MASTER);
+        let made = fresh_addressed(MASTER);
         let addressed = made.receiver;
         Receivers {
-            point: Receiver::point(),
+            point: fresh_point(),
             addressed,
         }
     }
@@ -74,7 +77,7 @@ impl Receivers {
 fn is_refused(receiver: Receiver) -> bool
     ensures { λ r. ⌜ r ≡ badState receiver ⌝ }
 {
-    let heard = receiver.receive(&[]);
+    let heard = receive(receiver, &[]);
     let refusal = heard.refusal;
     number(refusal) != 0
 }

@@ -11,7 +11,7 @@ use lib.Seq.{drop-drop}
 use Rattle.ground.specs.Laying.{laid, Ended, placed}
 use Rattle.ground.proofs.Laws.Lists.{drop-next}
 use Rattle.ground.proofs.Laws.Laying.{length-laid, placed-nil, placed-more}
-use Rattle.link.specs.Receiving.{badState}
+use Rattle.station.specs.Receiving.{badState}
 use Rattle.lines.specs.declared.side.Side.{Side}
 use Rattle.lines.specs.Limits.{leastRoom}
 use Rattle.tape.specs.declared.next.Next.the-variants.{Kind, Body}

@@ -10,9 +10,9 @@ use borrow.Author.Tests.{lt-ltb, ltb-false, ne-eqb}
 use lib.Dec.{ltb}
 use lib.ListN.{length, drop, length-append, take-append-drop}
 use Rattle.ground.proofs.Laws.Choice.{cond-elim}
-use Rattle.link.specs.declared.receiver.Receiver.{Receiver}
-use Rattle.link.specs.Receiving.{badState, received}
-use Rattle.link.proofs.Laws.Receiving.{stays-good}
+use Rattle.station.specs.declared.receiver.Receiver.{Receiver}
+use Rattle.station.specs.Receiving.{badState, received}
+use Rattle.station.proofs.Laws.Receiving.{stays-good}
 use Rattle.lines.specs.declared.side.Side.{Side}
 use Rattle.lines.specs.declared.side.Side.the-variants.{Point, Addressed}
 use Rattle.lines.specs.Limits.{leastRoom}

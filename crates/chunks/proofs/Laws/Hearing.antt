@@ -11,9 +11,9 @@ use lib.Seq.{drop-drop}
 use Rattle.ground.specs.declared.laying.Placed.{Placed}
 use Rattle.ground.specs.Laying.{laid, Ended, ended, placed}
 use Rattle.ground.proofs.Laws.Laying.{length-laid, placed-nil, placed-more}
-use Rattle.link.specs.declared.receiver.Receiver.{Receiver}
-use Rattle.link.specs.Receiving.{Said, badState, received}
-use Rattle.link.proofs.Laws.Receiving.{received-takes, stays-good}
+use Rattle.station.specs.declared.receiver.Receiver.{Receiver}
+use Rattle.station.specs.Receiving.{Said, badState, received}
+use Rattle.station.proofs.Laws.Receiving.{received-takes, stays-good}
 use Rattle.lines.specs.declared.side.Side.{Side}
 use Rattle.lines.specs.Limits.{leastRoom}
 use Rattle.tape.specs.Limits.{mostRecords}

@@ -11,10 +11,10 @@ use borrow.Author.Tests.{le-ltb, lt-ltb}
 use lib.ListN.{length, take, drop, set, getD}
 use lib.Seq.{take-suc, take-suc-set, length-take-le}
 use Rattle.station.specs.Events.{happened}
-use Rattle.link.specs.declared.receiver.Receiver.{Receiver}
-use Rattle.link.specs.Receiving.{Said, badState, received}
-use Rattle.link.proofs.Laws.Receiving.{received-takes, stays-good, empty-piece}
-use Rattle.link.proofs.Laws.Bytes.{later, received-first, received-later}
+use Rattle.station.specs.declared.receiver.Receiver.{Receiver}
+use Rattle.station.specs.Receiving.{Said, badState, received}
+use Rattle.station.proofs.Laws.Receiving.{received-takes, stays-good, empty-piece}
+use Rattle.station.proofs.Laws.Bytes.{later, received-first, received-later}
 use Rattle.lines.specs.declared.side.Side.{Side}
 use Rattle.lines.specs.Limits.{leastRoom}
 use Rattle.lines.specs.Lines.{brought}

@@ -16,9 +16,9 @@ use Rattle.wire.specs.Writing.{After, imageWritten}
 use Rattle.station.specs.declared.line.Line.the-variants.{Point}
 use Rattle.station.specs.Turning.{kept, plain, contentByte, inside, within, turn}
 use Rattle.station.specs.Events.{verdict}
-use Rattle.link.specs.Frame.{pointContent}
-use Rattle.link.specs.Writers.{written, pointWritten}
-use Rattle.link.specs.Receiving.{fresh, Said, saying, moved, outcome, heard, received}
+use Rattle.station.specs.Frame.{pointContent}
+use Rattle.station.specs.Writers.{written, pointWritten}
+use Rattle.station.specs.Receiving.{fresh, Said, saying, moved, outcome, heard, received}
 use Rattle.example.proofs.main.Statement.{statement}
 use Rattle.example.proofs.main.Tie as tie
 
@@ -35,7 +35,7 @@ unfolding said
 hears c =
     let w = c .before .before .before .before .before .before .before in
     c .receive .ensures
-    ∙ ap₂ received (c .before .before .point .ensures) (ap₂ take (counts w) (ap (λ (a : After). a .out) (w .write-point .ensures)))
+    ∙ ap₂ received (c .before .before .fresh-point .ensures) (ap₂ take (counts w) (ap (λ (a : After). a .out) (w .write-point .ensures)))
 
 carries : (c : tie.After-receive) → (c .receive .result .length ≡ 2) × (length (c .receive .result .content) ≡ 64)
 unfolding said stuffed stuffing image shiftStep shiftSteps byteStep run residue fcs fcsBytes checkOf withCheck pointContent imageWritten written
@@ -63,8 +63,8 @@ slice-aggregate-print c = sym (length-take-le _ _ (array-share-prefix-out (c .be
 print-requires : tie.Need-print-requires
 print-requires c κs = search needs
 
-point-requires : tie.Need-point-requires
-point-requires c κs = search needs
+fresh-point-requires : tie.Need-fresh-point-requires
+fresh-point-requires c κs = search needs
 
 array-share-prefix-out-2 : tie.Need-array-share-prefix-out-2
 array-share-prefix-out-2 c = array-share-prefix-out (c .before .before .before)
@@ -107,7 +107,7 @@ main-spec =
     array-share-prefix-out
     slice-aggregate-print
     print-requires
-    point-requires
+    fresh-point-requires
     array-share-prefix-out-2
     slice-aggregate-receive
     receive-requires

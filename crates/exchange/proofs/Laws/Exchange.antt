@@ -9,10 +9,10 @@ use lib.ListN.{length}
 use Rattle.ground.specs.Refusals.{number}
 use Rattle.station.specs.declared.line.Line.the-variants.{Point}
 use Rattle.station.specs.Events.{FRAME}
-use Rattle.link.specs.declared.receiver.Receiver.{Receiver}
-use Rattle.link.specs.Limits.{mostData}
-use Rattle.link.specs.Hearing.{Told, toldAt, IsFresh, Hearing}
-use Rattle.link.proofs.Laws.Listed.{point-image-listed}
+use Rattle.station.specs.declared.receiver.Receiver.{Receiver}
+use Rattle.station.specs.Limits.{mostData}
+use Rattle.station.specs.Hearing.{Told, toldAt, IsFresh, Hearing}
+use Rattle.station.proofs.Laws.Listed.{point-image-listed}
 use Rattle.request.specs.declared.command.Command.{Command}
 use Rattle.request.specs.declared.command.Acceptance.the-variants.{Accepted}
 use Rattle.request.specs.Limits.{mostAntenna, headerLength}

@@ -11,9 +11,9 @@ use Rattle.wire.specs.Writing.{After, after}
 use Rattle.station.specs.declared.event.Event.the-variants.{Frame}
 use Rattle.station.specs.declared.line.Line.the-variants.{Point}
 use Rattle.station.specs.Events.{FRAME}
-use Rattle.link.specs.declared.receiver.Receiver.{Receiver}
-use Rattle.link.specs.Limits.{mostData}
-use Rattle.link.specs.Hearing.{Told, toldAt, IsFresh, Hearing}
+use Rattle.station.specs.declared.receiver.Receiver.{Receiver}
+use Rattle.station.specs.Limits.{mostData}
+use Rattle.station.specs.Hearing.{Told, toldAt, IsFresh, Hearing}
 use Rattle.request.specs.declared.command.Command.{Command}
 use Rattle.request.specs.declared.command.Acceptance.{Acceptance}
 use Rattle.request.specs.declared.command.Acceptance.the-variants.{Accepted, Refused}

@@ -14,7 +14,7 @@ use Rattle.ground.specs.Laying.{Ended, unplaced, placed}
 use Rattle.ground.proofs.Laws.Choice.{cond-elim}
 use Rattle.wire.specs.Limits.{mostContent}
 use Rattle.station.specs.Events.{Name, NONE, FRAME, CHECK, SHORT, LONG, PAIR, ADDR, happened}
-use Rattle.link.specs.Receiving.{Said}
+use Rattle.station.specs.Receiving.{Said}
 use Rattle.text.specs.Ascii.{ascii}
 use Rattle.text.proofs.Laws.Decimal.{length-decimal}
 use Rattle.text.proofs.Laws.Hex.{pairs-within}

@@ -12,7 +12,7 @@ use lib.Seq.{take-append-seam}
 use borrow.Author.Tests.{eqb-true, le-ltb}
 use Rattle.ground.specs.Laying.{onto}
 use Rattle.ground.proofs.Laws.Choice.{by-test}
-use Rattle.link.specs.Limits.{mostData}
+use Rattle.station.specs.Limits.{mostData}
 use Rattle.request.specs.declared.parameter.Parameter.{Parameter}
 use Rattle.request.specs.declared.parameter.Parameter.the-variants.{Speed, Settings, Cell}
 use Rattle.request.specs.declared.command.Command.{Command}

@@ -13,7 +13,7 @@ use Rattle.ground.specs.declared.refusal.Refusal.the-variants.{NoRoom, TooLong,
 use Rattle.ground.specs.Refusals.{number, Keeps}
 use Rattle.ground.proofs.Laws.Choice.{cond-elim, or-none, by-test}
 use Rattle.station.specs.Events.{Name}
-use Rattle.link.specs.Limits.{mostData}
+use Rattle.station.specs.Limits.{mostData}
 use Rattle.request.specs.declared.command.Acceptance.{Acceptance}
 use Rattle.request.specs.declared.command.Acceptance.the-variants.{Accepted, Refused}
 use Rattle.request.specs.Limits.{mostAntenna}

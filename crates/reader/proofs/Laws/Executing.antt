@@ -8,7 +8,7 @@ use native.Mathlib.Omega.{arith}
 use lib.Dec.{eqb}
 use lib.ListN.{length, drop}
 use Rattle.ground.proofs.Laws.Choice.{cond-elim}
-use Rattle.link.specs.Limits.{mostData}
+use Rattle.station.specs.Limits.{mostData}
 use Rattle.request.specs.declared.parameter.Parameter.{Parameter}
 use Rattle.request.specs.declared.parameter.Parameter.the-variants.{Speed, Settings, Cell}
 use Rattle.request.specs.declared.command.Command.{Command}

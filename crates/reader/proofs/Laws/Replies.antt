@@ -9,9 +9,9 @@ use lib.ListN.{length}
 use Rattle.ground.proofs.Laws.Choice.{cond-elim}
 use Rattle.wire.specs.Image.{image}
 use Rattle.wire.proofs.Laws.Image.{room-for-any}
-use Rattle.link.specs.Limits.{mostData}
-use Rattle.link.specs.Frame.{pointContent}
-use Rattle.link.proofs.Laws.Frame.{length-point}
+use Rattle.station.specs.Limits.{mostData}
+use Rattle.station.specs.Frame.{pointContent}
+use Rattle.station.proofs.Laws.Frame.{length-point}
 use Rattle.request.specs.declared.parameter.Parameter.{Parameter}
 use Rattle.request.specs.declared.card.Card.{Card}
 use Rattle.request.specs.declared.command.Command.{Command}

@@ -12,7 +12,7 @@ use Rattle.ground.specs.Refusals.{number}
 use Rattle.station.specs.declared.event.Event.{Event}
 use Rattle.station.specs.declared.event.Event.the-variants.{Frame, Check}
 use Rattle.station.specs.Events.{Name, FRAME, CHECK, named}
-use Rattle.link.specs.Limits.{mostData}
+use Rattle.station.specs.Limits.{mostData}
 use Rattle.request.specs.declared.command.Acceptance.{Acceptance}
 use Rattle.request.specs.declared.command.Acceptance.the-variants.{Refused}
 use Rattle.request.specs.declared.command.Fault.{Fault}

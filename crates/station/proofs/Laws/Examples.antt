@@ -2,11 +2,26 @@
 -- Assumes nothing.
 use mathlib.Core.Path.{refl}
 use Rattle.ground.specs.Each.{Each, none, _and_}
+use Rattle.checks.specs.Fcs.{shiftStep, shiftSteps, byteStep, run, residue, fcs, fcsBytes}
 use Rattle.checks.specs.Sum.{total, sum}
-use Rattle.checks.specs.Check.{checkOf, front, came, alike, isRight}
+use Rattle.checks.specs.Check.{checkOf, withCheck, front, came, alike, isRight}
+use Rattle.wire.specs.Stuffing.{stuffed, stuffing}
+use Rattle.wire.specs.Image.{image}
+use Rattle.wire.specs.Writing.{imageWritten}
+use Rattle.station.specs.Address.{takes}
+use Rattle.station.specs.Turning.{kept, plain, partner, contentByte, inside, within, turn}
 use Rattle.station.specs.Events.{verdict}
 use Rattle.station.specs.Examples.{Holds, examples}
+use Rattle.station.specs.Frame.{pointContent, addressedContent}
+use Rattle.station.specs.Writers.{written, pointWritten, addressedWritten}
+use Rattle.station.specs.Receiving.{moved, outcome, heard, received}
+use Rattle.station.specs.Hearing.{note, tells}
 
 pub each-holds : Each Holds examples
-unfolding total sum checkOf front came alike isRight verdict
-each-holds = refl and refl and refl and none
+unfolding stuffed stuffing image shiftStep shiftSteps byteStep run residue fcs fcsBytes total sum checkOf withCheck pointContent addressedContent imageWritten written
+    pointWritten addressedWritten front came alike isRight takes kept plain partner contentByte inside within turn verdict moved outcome heard received note tells
+each-holds =
+    refl and refl and refl and refl and refl and refl and refl and refl and refl and refl and refl
+    and refl and refl and refl and refl and refl and refl and refl and refl and refl and refl and refl and refl
+    and refl and refl and refl and refl and refl and refl and refl and refl and refl and refl and refl and refl
+    and refl and refl and refl and refl and refl and refl and none

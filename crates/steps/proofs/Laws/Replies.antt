@@ -11,10 +11,10 @@ use Rattle.ground.specs.declared.refusal.Counted.{Counted}
 use Rattle.ground.specs.Refusals.{counted}
 use Rattle.wire.specs.Image.{image}
 use Rattle.wire.specs.Writing.{After, after, leaving}
-use Rattle.link.specs.Limits.{mostData}
-use Rattle.link.specs.Frame.{pointContent}
-use Rattle.link.specs.Writers.{pointWritten}
-use Rattle.link.proofs.Laws.Writers.{point-writes}
+use Rattle.station.specs.Limits.{mostData}
+use Rattle.station.specs.Frame.{pointContent}
+use Rattle.station.specs.Writers.{pointWritten}
+use Rattle.station.proofs.Laws.Writers.{point-writes}
 use Rattle.request.specs.declared.parameter.Parameter.{Parameter}
 use Rattle.request.specs.declared.card.Card.{Card}
 use Rattle.request.specs.declared.command.Command.{Command}

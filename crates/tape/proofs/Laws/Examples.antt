@@ -9,7 +9,7 @@ use Rattle.wire.specs.Stuffing.{stuffed, stuffing}
 use Rattle.station.specs.Address.{takes}
 use Rattle.station.specs.Turning.{kept, plain, partner, contentByte, inside, within, turn}
 use Rattle.station.specs.Events.{verdict}
-use Rattle.link.specs.Receiving.{moved, outcome, heard, received}
+use Rattle.station.specs.Receiving.{moved, outcome, heard, received}
 use Rattle.text.specs.Ascii.{ascii}
 use Rattle.text.specs.Decimal.{spelled}
 use Rattle.text.specs.Hex.{digit, further, pairs}

@@ -8,9 +8,9 @@ use native.Mathlib.Omega.{arith}
 use borrow.Author.Tests.{eqb-false}
 use lib.Dec.{eqb}
 use Rattle.ground.proofs.Laws.Choice.{or-none}
-use Rattle.link.specs.declared.receiver.Receiver.{Receiver}
-use Rattle.link.specs.Receiving.{badState, received}
-use Rattle.link.proofs.Laws.Receiving.{stays-good}
+use Rattle.station.specs.declared.receiver.Receiver.{Receiver}
+use Rattle.station.specs.Receiving.{badState, received}
+use Rattle.station.proofs.Laws.Receiving.{stays-good}
 use Rattle.lines.specs.declared.side.Side.{Side}
 use Rattle.lines.specs.declared.side.Side.the-variants.{Point, Addressed}
 use Rattle.tape.specs.declared.next.Next.{Next}

@@ -11,14 +11,14 @@ use lib.ListN.{length, drop, length-append}
 use Rattle.ground.proofs.Laws.Choice.{cond-elim}
 use Rattle.ground.proofs.Laws.Lists.{drop-on, drop-none}
 use Rattle.station.specs.Events.{Name, FRAME, happened}
-use Rattle.link.specs.declared.receiver.Receiver.{Receiver}
-use Rattle.link.specs.Receiving.{Said, badState, received}
-use Rattle.link.specs.Hearing.{Told, toldAt, note, IsFresh, Hearing, over}
-use Rattle.link.specs.Listing.{Lists}
-use Rattle.link.proofs.Laws.Receiving.{stays-good}
-use Rattle.link.proofs.Laws.Bytes.{note-some, note-none, hearing-byte}
-use Rattle.link.proofs.Laws.Fresh.{fresh-point, fresh-station, fresh-good}
-use Rattle.link.proofs.Laws.Demand.{hearing-lists}
+use Rattle.station.specs.declared.receiver.Receiver.{Receiver}
+use Rattle.station.specs.Receiving.{Said, badState, received}
+use Rattle.station.specs.Hearing.{Told, toldAt, note, IsFresh, Hearing, over}
+use Rattle.station.specs.Listing.{Lists}
+use Rattle.station.proofs.Laws.Receiving.{stays-good}
+use Rattle.station.proofs.Laws.Bytes.{note-some, note-none, hearing-byte}
+use Rattle.station.proofs.Laws.Fresh.{fresh-point, fresh-station, fresh-good}
+use Rattle.station.proofs.Laws.Demand.{hearing-lists}
 use Rattle.lines.specs.declared.side.Side.{Side}
 use Rattle.lines.specs.declared.side.Side.the-variants.{Point, Addressed}
 use Rattle.lines.specs.Lines.{carried}

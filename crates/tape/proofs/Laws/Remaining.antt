@@ -10,7 +10,7 @@ use lib.Dec.{eqb}
 use lib.ListN.{length, drop}
 use Rattle.ground.proofs.Laws.Choice.{cond-elim}
 use Rattle.station.specs.Events.{happened}
-use Rattle.link.specs.Receiving.{Said, received}
+use Rattle.station.specs.Receiving.{Said, received}
 use Rattle.lines.specs.declared.side.Side.{Side}
 use Rattle.lines.specs.declared.ends.Ending.{Ending}
 use Rattle.lines.specs.declared.ends.Ending.the-variants.{Full as FULL}

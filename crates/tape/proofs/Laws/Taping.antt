@@ -12,9 +12,9 @@ use Rattle.ground.specs.declared.refusal.Refusal.{Refusal}
 use Rattle.ground.specs.declared.refusal.Refusal.the-variants.{NoRoom, BadState}
 use Rattle.ground.specs.Refusals.{Keeps}
 use Rattle.ground.proofs.Laws.Choice.{cond-elim, or-none}
-use Rattle.link.specs.declared.receiver.Receiver.{Receiver}
-use Rattle.link.specs.Receiving.{received}
-use Rattle.link.proofs.Laws.Receiving.{length-within}
+use Rattle.station.specs.declared.receiver.Receiver.{Receiver}
+use Rattle.station.specs.Receiving.{received}
+use Rattle.station.proofs.Laws.Receiving.{length-within}
 use Rattle.lines.specs.declared.side.Side.{Side}
 use Rattle.lines.specs.Limits.{leastRoom}
 use Rattle.lines.specs.Lines.{carried, brought}

@@ -9,7 +9,7 @@ use borrow.Author.Needs.{needs}
 use borrow.Author.Tests.{leb-true, leb-false}
 use lib.ListN.{length, take, drop, length-drop}
 use Rattle.ground.proofs.Laws.Lists.{take-rest}
-use Rattle.link.specs.declared.receiver.Receiver.{Receiver}
+use Rattle.station.specs.declared.receiver.Receiver.{Receiver}
 use Rattle.lines.specs.Limits.{leastRoom}
 use Rattle.tape.specs.declared.receivers.Receivers.{Receivers}
 use Rattle.tape.specs.declared.next.Next.{Next}

@@ -9,8 +9,8 @@ use lib.ListN.{length, drop}
 use Rattle.ground.specs.Laying.{placed}
 use Rattle.ground.proofs.Laws.Lists.{take-rest}
 use Rattle.wire.specs.Limits.{mostContent}
-use Rattle.link.specs.Receiving.{Said, saying, received}
-use Rattle.link.proofs.Laws.Receiving.{length-within}
+use Rattle.station.specs.Receiving.{Said, saying, received}
+use Rattle.station.proofs.Laws.Receiving.{length-within}
 use Rattle.lines.specs.Limits.{leastRoom}
 use Rattle.lines.specs.Lines.{brought}
 use Rattle.lines.proofs.Laws.Lines.{puts-heard}

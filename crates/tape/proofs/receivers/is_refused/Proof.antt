@@ -8,8 +8,8 @@ use borrow.Author.Needs.{needs}
 use lib.Dec.{eqb}
 use Rattle.ground.specs.declared.refusal.Refusal.the-variants.{BadState}
 use Rattle.ground.specs.Refusals.{number}
-use Rattle.link.specs.Receiving.{Said, badState}
-use Rattle.link.proofs.Laws.Receiving.{refused-only}
+use Rattle.station.specs.Receiving.{Said, badState}
+use Rattle.station.proofs.Laws.Receiving.{refused-only}
 use Rattle.tape.proofs.receivers.is_refused.Statement.{statement}
 use Rattle.tape.proofs.receivers.is_refused.Tie as tie
 

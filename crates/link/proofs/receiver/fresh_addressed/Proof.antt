@@ -1,0 +1,24 @@
+-- `receiver::fresh_addressed` meets its contract.
+-- Assumes nothing.
+use mathlib.Core.Path.{sym, _∙_}
+use borrow.Author.Needs.{needs}
+use Rattle.station.specs.Receiving.{freshMade}
+use Rattle.link.proofs.receiver.fresh_addressed.Statement.{statement}
+use Rattle.link.proofs.receiver.fresh_addressed.Tie as tie
+
+fresh-requires : tie.Need-fresh-requires
+fresh-requires c κs = search needs
+
+is-station-requires : tie.Need-is-station-requires
+is-station-requires c κs = search needs
+
+returns : tie.Need-returns
+unfolding freshMade
+returns c = rw (c .before .before .fresh .ensures, sym (c .before .is-station .ensures) ∙ c .if1 .taken)
+
+returns-2 : tie.Need-returns-2
+unfolding freshMade
+returns-2 c = rw (c .before .before .fresh .ensures, sym (c .before .is-station .ensures) ∙ c .if1 .left)
+
+pub fresh-addressed-spec : {M : Type 1} → statement M
+fresh-addressed-spec = tie.close (tie.spec fresh-requires is-station-requires returns returns-2)

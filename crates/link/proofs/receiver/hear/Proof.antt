@@ -1,0 +1,196 @@
+-- `receiver::hear` meets its contract: what is left of the piece gives what the whole piece gives.
+-- Assumes nothing.
+use mathlib.Core.Path.{_≡_, refl, sym, ap, subst⁻¹, _∙_}
+use mathlib.Core.Logic.{⊎-elim}
+use Prim.Native.Nat.{_+_, _-_, _<_, zero-le}
+use native.Mathlib.Omega.{arith}
+use borrow.Author.Needs.{needs}
+use lib.ListN.{length, take, getD, length-map}
+use lib.Seq.{length-take-le}
+use Rattle.checks.specs.declared.kind.Check.{Check}
+use Rattle.wire.specs.Limits.{mostContent}
+use Rattle.station.specs.declared.event.Verdict.{Verdict}
+use Rattle.station.specs.declared.turn.Turn.{Turn}
+use Rattle.station.specs.Events.{verdict}
+use Rattle.station.specs.Turning.{turn}
+use Rattle.station.proofs.Laws.Turning.{Sound, turn-sound}
+use Rattle.station.specs.declared.receiver.Receiver.{Receiver}
+use Rattle.link.specs.declared.receiver.Found.{Found}
+use Rattle.station.specs.Receiving.{being, outside, moved, outcome, answering, heard}
+use Rattle.station.proofs.Laws.Receiving.{Going, runs-out, next-byte, breaks-off}
+use Rattle.link.proofs.receiver.hear.Statement.{statement}
+use Rattle.link.proofs.receiver.hear.Tie as tie
+
+abbrev Inv-loop : tie.InvT-loop
+Inv-loop piece line phase₀ count₀ content₀ taken₀ phase count content taken =
+    Going piece (being line phase₀ count₀ content₀) taken (being line phase count content)
+
+abbrev μ-loop : tie.MeasureT-loop
+μ-loop piece line phase₀ count₀ content₀ taken₀ phase count content taken = length piece - taken
+
+loop-holds : tie.Need-loop-holds Inv-loop μ-loop
+unfolding heard
+loop-holds c =
+    let sized = simp length-map at (c .before .before .good .0 .1 .1 .1 .1 .1 .0 .1 .0 .1) in
+    record { part = zero-le; fit = record { on = refl; sized = sized; within = c .before .before .pre }; same = refl }
+
+told-requires : tie.Need-told-requires Inv-loop μ-loop
+told-requires c κs = search needs
+
+returns : tie.Need-returns Inv-loop μ-loop
+returns c = c .told .ensures ∙ runs-out (c .before .before .loop .inv) (omega arith)
+
+shared-slice-read-at-byte : tie.Need-shared-slice-read-at-byte Inv-loop μ-loop
+shared-slice-read-at-byte c = omega arith
+
+at-byte-requires : tie.Need-at-byte-requires Inv-loop μ-loop
+at-byte-requires c κs = search needs
+
+add-taken : tie.Need-add-taken Inv-loop μ-loop
+add-taken c = omega arith
+
+enum-told : tie.Need-enum-told Inv-loop μ-loop
+enum-told c = search needs
+
+loop-less : tie.Need-loop-less Inv-loop μ-loop
+loop-less c = omega arith
+
+-- the turn that was found is that of the byte
+turn-is : (d : tie.After-at-byte Inv-loop μ-loop) {t : Turn} → d .at-byte .result ≡ t → let l = d .before .before .before in
+    let a = l .before .before .before .args in
+    t ≡ turn (a .receiver .line) (l .loop .phase) (l .loop .count) (getD (a .piece .now) (l .loop .taken) 0)
+turn-is d found = sym found ∙ d .at-byte .ensures
+
+loop-again : tie.Need-loop-again Inv-loop μ-loop
+unfolding moved
+loop-again c =
+    let d = c .before .before in
+    next-byte (d .before .before .before .loop .inv) (omega arith) (turn-is d (c .enum-told .given .1)) refl
+
+enum-told-2 : tie.Need-enum-told-2 Inv-loop μ-loop
+enum-told-2 c = search needs
+
+loop-less-2 : tie.Need-loop-less-2 Inv-loop μ-loop
+loop-less-2 c = omega arith
+
+loop-again-2 : tie.Need-loop-again-2 Inv-loop μ-loop
+unfolding moved
+loop-again-2 c =
+    let d = c .before .before in
+    next-byte (d .before .before .before .loop .inv) (omega arith) (turn-is d (c .enum-told2 .given .1)) refl
+
+enum-told-3 : tie.Need-enum-told-3 Inv-loop μ-loop
+enum-told-3 c = search needs
+
+loop-less-3 : tie.Need-loop-less-3 Inv-loop μ-loop
+loop-less-3 c = omega arith
+
+loop-again-3 : tie.Need-loop-again-3 Inv-loop μ-loop
+unfolding moved
+loop-again-3 c =
+    let d = c .before .before in
+    next-byte (d .before .before .before .loop .inv) (omega arith) (turn-is d (c .enum-told3 .given .1)) refl
+
+enum-known-turn : tie.Need-enum-known-turn Inv-loop μ-loop
+enum-known-turn c = search needs
+
+-- the turn was to keep a byte, so there is room for it
+room : (c : tie.After-known-told Inv-loop μ-loop) → c .before .before .before .before .before .before .loop .count < mostContent
+room c =
+    let d = c .before .before .before in
+    let a = d .before .before .before in
+    subst⁻¹ (Sound (a .loop .count)) (turn-is d (c .before .turn .given .1)) (turn-sound _ _ _ _)
+
+array-write-content : tie.Need-array-write-content Inv-loop μ-loop
+array-write-content c = room c
+
+add-count : tie.Need-add-count Inv-loop μ-loop
+add-count c = omega (arith, room c)
+
+loop-less-4 : tie.Need-loop-less-4 Inv-loop μ-loop
+loop-less-4 c = omega arith
+
+loop-again-4 : tie.Need-loop-again-4 Inv-loop μ-loop
+unfolding moved
+loop-again-4 c =
+    let d = c .before .before .before in
+    next-byte (d .before .before .before .loop .inv) (omega arith) (turn-is d (c .before .turn .given .1)) refl
+
+enum-told-4 : tie.Need-enum-told-4 Inv-loop μ-loop
+enum-told-4 c = search needs
+
+check-on-requires : tie.Need-check-on-requires Inv-loop μ-loop
+check-on-requires c κs = search needs
+
+array-share-prefix-content : tie.Need-array-share-prefix-content Inv-loop μ-loop
+array-share-prefix-content c = omega arith
+
+slice-aggregate-at-stop : tie.Need-slice-aggregate-at-stop Inv-loop μ-loop
+slice-aggregate-at-stop c = sym (length-take-le _ _ (omega arith))
+
+at-stop-requires : tie.Need-at-stop-requires Inv-loop μ-loop
+at-stop-requires c κs = search needs
+
+enum-known-turn-2 : tie.Need-enum-known-turn-2 Inv-loop μ-loop
+enum-known-turn-2 c = search needs
+
+outside-requires : tie.Need-outside-requires Inv-loop μ-loop
+outside-requires c κs = search needs
+
+told-requires-2 : tie.Need-told-requires-2 Inv-loop μ-loop
+told-requires-2 c κs = search needs
+
+-- the two ways out of the loop: the frame ended, or was given up
+returns-2 : tie.Need-returns-2 Inv-loop μ-loop
+unfolding moved outcome
+returns-2 c =
+    let m = c .before .before in
+    let d = m .before in
+    let l = d .before .before .before in
+    let on = answering (outside (l .before .before .before .args .receiver .line) (l .loop .content)) in
+    let n = l .loop .taken + 1 in
+    c .told2 .ensures
+    ∙ ap (λ (r : Receiver). answering r (m .match .found .verdict) (m .match .found .taken)) (c .before .outside .ensures)
+    ∙ ⊎-elim
+    (λ w. ap (λ (f : Found). on (f .verdict) (f .taken)) (w .5)
+    ∙ ap (λ (v : Verdict). on v n) (w .4 .ensures ∙ ap (λ (k : Check). verdict k (take (l .loop .count) (l .loop .content))) (w .2 .ensures))
+    ∙ breaks-off (l .loop .inv) (omega arith) (turn-is d (w .1 .given .1)) refl)
+    (λ w. ap (λ (f : Found). on (f .verdict) (f .taken)) (w .3)
+    ∙ breaks-off (l .loop .inv) (omega arith) (turn-is d (w .1 .given .1)) refl)
+    (m .match .came)
+
+pub hear-spec : {M : Type 1} → statement M
+hear-spec =
+    tie.close
+    (tie.spec
+    Inv-loop
+    μ-loop
+    loop-holds
+    told-requires
+    returns
+    shared-slice-read-at-byte
+    at-byte-requires
+    add-taken
+    enum-told
+    loop-less
+    loop-again
+    enum-told-2
+    loop-less-2
+    loop-again-2
+    enum-told-3
+    loop-less-3
+    loop-again-3
+    enum-known-turn
+    array-write-content
+    add-count
+    loop-less-4
+    loop-again-4
+    enum-told-4
+    check-on-requires
+    array-share-prefix-content
+    slice-aggregate-at-stop
+    at-stop-requires
+    enum-known-turn-2
+    outside-requires
+    told-requires-2
+    returns-2)
