@@ -7,6 +7,7 @@ use link::receiver::fresh_point;
 use reader::reader::Reader;
 use station::line::MASTER;
 use station::receiver::Receiver;
+use steps::reader::fresh_reader;
 
 // A receiver of each line, and a point reader with its two buffers.
 pub(crate) struct Bench {
@@ -29,7 +30,7 @@ impl Bench {
         Bench {
             point: fresh_point(),
             addressed,
-            reader: Reader::fresh(),
+            reader: fresh_reader(),
             store: [UNTOUCHED; MOST_LENGTH],
             out: [UNTOUCHED; MOST_LENGTH],
         }

@@ -6,7 +6,6 @@ use crate::buffer::front_mut;
 use crate::buffer::length;
 use crate::line::Text;
 use reader::buffer::Buffer;
-use reader::buffer::to_send;
 use reader::memory::Memory;
 use reader::parameters::Parameters;
 use reader::reader::Answer;
@@ -14,6 +13,7 @@ use reader::reader::Reader;
 use request::header::HEADER_LENGTH;
 use request::header::header;
 use station::event::Event;
+use steps::buffer::to_send;
 ghost use Prim.Native.Nat.{_≤_};
 ghost use lib.ListN.{length as lengthOf};
 
@@ -137,7 +137,7 @@ fn put_reader(reader: Reader, text: Text) -> Text {
 
 pub(crate) fn power_on(mut bench: Bench, text: Text) -> Done {
     let reader = bench.reader;
-    let powered = reader.power_on();
+    let powered = steps::reader::power_on(reader);
     let refusal = powered.refusal;
     let reader = powered.reader;
     bench.reader = reader;

@@ -34,8 +34,8 @@ use Rattle.reader.specs.Limits.{room, leastFront, mostFront}
 use Rattle.reader.specs.Parameters as parameters
 use Rattle.reader.specs.Parameters.{valueOf, doneTo}
 use Rattle.reader.specs.Asking.{asking}
-use Rattle.reader.specs.Memory.{find, tooFar}
 use Rattle.reader.specs.Replies.{replyImage, replyTo}
+use Rattle.reader.specs.Memory.{find, tooFar}
 
 abbrev pub being : Parameters → Memory → Reader
 being ps memory = record { parameters = ps; memory = memory }

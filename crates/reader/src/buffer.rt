@@ -1,28 +1,7 @@
-// The two buffers that a reader is lent, and the part of one of them that goes to the wire.
-ghost use mathlib.Core.Path.{_≡_};
-ghost use Rattle.reader.specs.Sending.{frontPart, sent};
+// The two buffers that a reader is lent.
 
 // The out buffer, which holds a reply as it is written, and the store, which keeps the last executed command's.
 pub enum Buffer {
     Out,
     Store,
-}
-
-// The bytes to send: the first `length` of the buffer that is meant, and none where it is shorter.
-pub fn to_send<'a>(buffer: Buffer, length: usize, store: &'a [u8], out: &'a [u8]) -> &'a [u8]
-    ensures { λ r. ⌜ now r ≡ sent buffer length (now (store .entry)) (now (out .entry)) ⌝ }
-{
-    match buffer {
-        Buffer::Out => part(out, length),
-        Buffer::Store => part(store, length),
-    }
-}
-
-fn part(bytes: &[u8], length: usize) -> &[u8]
-    ensures { λ r. ⌜ now r ≡ frontPart length (now (bytes .entry)) ⌝ }
-{
-    if length > bytes.len() {
-        return &bytes[..0];
-    }
-    &bytes[..length]
 }

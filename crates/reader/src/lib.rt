@@ -1,4 +1,4 @@
-// The point reader: its record, what it answers to requests, and the stored reply to one that is repeated. `steps` has the call.
+// The point reader, as types alone: its record, and what it answers to requests and to one that is repeated. The functions are in `steps`.
 pub mod asking;
 pub mod buffer;
 pub mod limits;

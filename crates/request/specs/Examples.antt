@@ -9,10 +9,10 @@ use Rattle.ground.specs.declared.refusal.Refusal.the-variants.{BadRequest}
 use Rattle.wire.specs.Writing.{refusing}
 use Rattle.request.specs.declared.card.Card.{Card}
 use Rattle.request.specs.declared.card.Card.the-variants.{Motorola}
-use Rattle.request.specs.Acceptance.{acceptance, isAccepted}
-use Rattle.request.specs.Requesting.{requestWritten}
-use Rattle.request.specs.Header.{header}
 use Rattle.request.specs.Cards.{isCode, codeNumber}
+use Rattle.request.specs.Acceptance.{acceptance, isAccepted}
+use Rattle.request.specs.Header.{header}
+use Rattle.request.specs.Requesting.{requestWritten}
 
 pub data Example : Type 0 where
   -- a reader accepts this code and data

@@ -12,9 +12,9 @@ use Rattle.wire.specs.Stuffing.{stuffing}
 use Rattle.wire.specs.Image.{image}
 use Rattle.station.specs.declared.line.Line.{Line}
 use Rattle.station.specs.declared.line.Line.the-variants.{Point, Addressed}
-use Rattle.station.specs.Events.{Name, FRAME, CHECK, SHORT, LONG, PAIR, ADDR, named, verdict}
 use Rattle.station.specs.Frame.{pointContent, addressedContent}
 use Rattle.station.specs.Writers.{pointWritten, addressedWritten}
+use Rattle.station.specs.Events.{Name, FRAME, CHECK, SHORT, LONG, PAIR, ADDR, named, verdict}
 use Rattle.station.specs.Receiving.{fresh, received}
 use Rattle.station.specs.Hearing.{toldAt, tells}
 

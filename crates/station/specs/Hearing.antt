@@ -7,10 +7,10 @@ use mathlib.Core.List.{List, [], _∷_, _++_}
 use lib.ListN.{length, take, drop}
 use Rattle.station.specs.declared.line.Line.{Line}
 use Rattle.station.specs.declared.line.Line.the-variants.{Point, Addressed}
-use Rattle.station.specs.Events.{Name, happened}
 use Rattle.station.specs.declared.receiver.Receiver.{Receiver}
 use Rattle.station.specs.declared.receiver.Fresh.{Fresh}
 use Rattle.station.specs.declared.receiver.Heard.{Heard}
+use Rattle.station.specs.Events.{Name, happened}
 use Rattle.station.specs.Receiving.{fresh, made, freshMade, Said, saying, received}
 
 -- an event with its place, the number of its byte in the stream (the first byte is 1), and its content without check

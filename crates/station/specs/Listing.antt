@@ -14,9 +14,9 @@ use Rattle.station.specs.declared.line.Line.the-variants.{Point, Address
 use Rattle.station.specs.Limits.{leastContent}
 use Rattle.station.specs.Address.{takes}
 use Rattle.station.specs.Line.{checked, Taken}
-use Rattle.station.specs.Events.{FRAME}
 use Rattle.station.specs.Frame.{pointContent, addressedContent}
 use Rattle.station.specs.Writers.{pointWritten, addressedWritten}
+use Rattle.station.specs.Events.{FRAME}
 use Rattle.station.specs.Hearing.{Told, toldAt}
 
 -- The complete wire image of a content stands in the stream and ends at this place. The content is this front with its check behind it;

@@ -17,13 +17,13 @@ use Rattle.station.specs.declared.phase.Phase.{Phase}
 use Rattle.station.specs.declared.phase.Phase.the-variants.{Outside, Inside, Pending}
 use Rattle.station.specs.declared.turn.Turn.{Turn}
 use Rattle.station.specs.declared.turn.Turn.the-variants.{Rest, Begin, Wait, Keep, Stop, Tell}
+use Rattle.station.specs.declared.receiver.Receiver.{Receiver}
+use Rattle.station.specs.declared.receiver.Fresh.{Fresh}
+use Rattle.station.specs.declared.receiver.Heard.{Heard}
 use Rattle.station.specs.Address.{isStation}
 use Rattle.station.specs.Line.{checkOn, hasStation}
 use Rattle.station.specs.Events.{Name, named, telling, silent, verdict}
 use Rattle.station.specs.Turning.{turn}
-use Rattle.station.specs.declared.receiver.Receiver.{Receiver}
-use Rattle.station.specs.declared.receiver.Fresh.{Fresh}
-use Rattle.station.specs.declared.receiver.Heard.{Heard}
 
 abbrev pub being : Line → Phase → ℕ → List ℕ → Receiver
 being line phase count content = record { line = line; phase = phase; count = count; content = content }

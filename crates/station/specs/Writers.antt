@@ -9,8 +9,8 @@ use lib.ListN.{length}
 use Rattle.ground.specs.declared.refusal.Refusal.the-variants.{NoRoom, TooLong, BadAddress}
 use Rattle.wire.specs.Image.{image}
 use Rattle.wire.specs.Writing.{After, refusing, putting, imageWritten}
-use Rattle.station.specs.Address.{isNever}
 use Rattle.station.specs.Limits.{mostData}
+use Rattle.station.specs.Address.{isNever}
 use Rattle.station.specs.Frame.{pointContent, addressedContent}
 
 -- 01, Refusal numbers, rows 2 and 3, and 'Order': writer 2, 3, 1; then the image

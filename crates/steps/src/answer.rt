@@ -1,4 +1,7 @@
 // The call that does the steps of the point reader.
+use crate::asking::asked_by;
+use crate::memory::find;
+use crate::reader::is_bad;
 use crate::reply::WRONG_CHECK;
 use crate::reply::write_nack;
 use crate::reply::write_reply;
@@ -6,7 +9,6 @@ use crate::values::behind;
 use ground::laying::put;
 use ground::refusal::Refusal;
 use reader::asking::Asking;
-use reader::asking::asked_by;
 use reader::buffer::Buffer;
 use reader::limits::LEAST_FRONT;
 use reader::limits::MOST_FRONT;
@@ -44,7 +46,7 @@ pub fn answer(
 ) -> Answer
     ensures { λ r. ⌜ answering r (now (store .exit)) (now (out .exit)) ≡ answered reader (named event) (now (content .entry)) header (now (antenna .entry)) (now (store .entry)) (now (out .entry)) ⌝ }
 {
-    if reader.is_bad() {
+    if is_bad(reader) {
         return refused(Refusal::BadState, reader);
     }
     if store.len() < ROOM {
@@ -103,7 +105,7 @@ fn answer_frame(
     let identifier = content[0];
     let code = content[1];
     let memory = reader.memory;
-    if let Repeat::Stored(length) = memory.find(identifier, code) {
+    if let Repeat::Stored(length) = find(memory, identifier, code) {
         return sending(reader, Buffer::Store, length);
     }
     let data = &content[2..];

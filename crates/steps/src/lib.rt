@@ -1,4 +1,8 @@
-// The point reader's steps: what it does with what it heard, and the replies that it writes.
+// The calls of the point reader: a fresh one, power-on, the one that does the steps with what was heard, and the part of a buffer to send.
 pub mod answer;
+mod asking;
+pub mod buffer;
+mod memory;
+pub mod reader;
 mod reply;
 mod values;

@@ -6,8 +6,8 @@ use lib.Dec.{eqb}
 use lib.ListN.{length}
 use Rattle.station.specs.declared.line.Line.{Line}
 use Rattle.station.specs.declared.line.Line.the-variants as line
-use Rattle.station.specs.Events.{Name, happened}
 use Rattle.station.specs.declared.receiver.Receiver.{Receiver}
+use Rattle.station.specs.Events.{Name, happened}
 use Rattle.station.specs.Receiving.{fresh, Said, received}
 use Rattle.lines.specs.declared.side.Side.{Side}
 use Rattle.lines.specs.declared.side.Side.the-variants.{Point, Addressed}

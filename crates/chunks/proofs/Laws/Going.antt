@@ -24,8 +24,8 @@ use Rattle.tape.specs.declared.tape.Tape.{Tape}
 use Rattle.tape.specs.Limits.{mostRecords}
 use Rattle.tape.specs.Whole.{kindOf, on, turned}
 use Rattle.tape.specs.Taping.{being, behindKind, stepAt, isOver, Went, standing, going}
-use Rattle.tape.proofs.Laws.Whole.{kind-known}
 use Rattle.tape.proofs.Laws.Taping.{behindWent, going-step, brought-within}
+use Rattle.tape.proofs.Laws.Whole.{kind-known}
 use Rattle.chunks.specs.Running.{laced, Gathered, Run, resting, running}
 use Rattle.chunks.proofs.Laws.Running.{behindRun, running-step, running-full}
 

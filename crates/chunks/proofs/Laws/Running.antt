@@ -10,8 +10,8 @@ use native.Mathlib.Omega.{arith}
 use borrow.Author.Tests.{le-ltb, lt-ltb}
 use lib.ListN.{length, take, drop, set, getD}
 use lib.Seq.{take-suc, take-suc-set, length-take-le}
-use Rattle.station.specs.Events.{happened}
 use Rattle.station.specs.declared.receiver.Receiver.{Receiver}
+use Rattle.station.specs.Events.{happened}
 use Rattle.station.specs.Receiving.{Said, badState, received}
 use Rattle.station.proofs.Laws.Receiving.{received-takes, stays-good, empty-piece}
 use Rattle.station.proofs.Laws.Bytes.{later, received-first, received-later}

@@ -14,10 +14,10 @@ use Rattle.wire.specs.Stuffing.{stuffed, stuffing}
 use Rattle.wire.specs.Image.{image}
 use Rattle.wire.specs.Writing.{After, imageWritten}
 use Rattle.station.specs.declared.line.Line.the-variants.{Point}
-use Rattle.station.specs.Turning.{kept, plain, contentByte, inside, within, turn}
-use Rattle.station.specs.Events.{verdict}
 use Rattle.station.specs.Frame.{pointContent}
 use Rattle.station.specs.Writers.{written, pointWritten}
+use Rattle.station.specs.Events.{verdict}
+use Rattle.station.specs.Turning.{kept, plain, contentByte, inside, within, turn}
 use Rattle.station.specs.Receiving.{fresh, Said, saying, moved, outcome, heard, received}
 use Rattle.example.proofs.main.Statement.{statement}
 use Rattle.example.proofs.main.Tie as tie

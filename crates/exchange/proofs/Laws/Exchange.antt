@@ -8,9 +8,9 @@ use native.Mathlib.Omega.{arith}
 use lib.ListN.{length}
 use Rattle.ground.specs.Refusals.{number}
 use Rattle.station.specs.declared.line.Line.the-variants.{Point}
-use Rattle.station.specs.Events.{FRAME}
 use Rattle.station.specs.declared.receiver.Receiver.{Receiver}
 use Rattle.station.specs.Limits.{mostData}
+use Rattle.station.specs.Events.{FRAME}
 use Rattle.station.specs.Hearing.{Told, toldAt, IsFresh, Hearing}
 use Rattle.station.proofs.Laws.Listed.{point-image-listed}
 use Rattle.request.specs.declared.command.Command.{Command}

@@ -10,9 +10,9 @@ use Rattle.ground.specs.Refusals as refusals
 use Rattle.wire.specs.Writing.{After, after}
 use Rattle.station.specs.declared.event.Event.the-variants.{Frame}
 use Rattle.station.specs.declared.line.Line.the-variants.{Point}
-use Rattle.station.specs.Events.{FRAME}
 use Rattle.station.specs.declared.receiver.Receiver.{Receiver}
 use Rattle.station.specs.Limits.{mostData}
+use Rattle.station.specs.Events.{FRAME}
 use Rattle.station.specs.Hearing.{Told, toldAt, IsFresh, Hearing}
 use Rattle.request.specs.declared.command.Command.{Command}
 use Rattle.request.specs.declared.command.Acceptance.{Acceptance}
@@ -26,8 +26,8 @@ use Rattle.reader.specs.declared.reader.Reader.{Reader}
 use Rattle.reader.specs.declared.reader.Answer.{Answer}
 use Rattle.reader.specs.Answering.{fresh, Answered, answering, Lent, judged, answered}
 use Rattle.reader.specs.Sessions.{History, begun, repeats, Kept, Session}
-use Rattle.reader.proofs.Laws.Sessions.{fresh-session, session-judges, session-replies, session-on}
 use Rattle.reader.proofs.Laws.Replies.{executed-answer}
+use Rattle.reader.proofs.Laws.Sessions.{fresh-session, session-judges, session-replies, session-on}
 use Rattle.exchange.specs.Exchanging.{Executes, Refuses}
 
 -- a call of a session on a FRAME that repeats nothing, with good buffers

@@ -32,8 +32,8 @@ use Rattle.reader.specs.declared.memory.Repeat.the-variants.{New, Stored
 use Rattle.reader.specs.declared.reader.Reader.{Reader}
 use Rattle.reader.specs.Limits.{room}
 use Rattle.reader.specs.Parameters.{valueOf}
-use Rattle.reader.specs.Memory.{find, tooFar}
 use Rattle.reader.specs.Replies.{replyImage, replyTo}
+use Rattle.reader.specs.Memory.{find, tooFar}
 use Rattle.reader.specs.Answering.{being, fresh, badState, Answered, Lent, sending, nacked, executed, judged, recalled, framed, stepped}
 use Rattle.reader.specs.Sending.{sent}
 use Rattle.reader.specs.Sessions.{Executed, imageOf, History, begun, forgetting, repeats, judgedNext, next, judgedReply, bytesOf, toSend, isRepeat, Kept}

@@ -12,8 +12,8 @@ use Rattle.ground.specs.declared.refusal.Refusal.{Refusal}
 use Rattle.ground.specs.declared.refusal.Refusal.the-variants.{NoRoom, TooLong, BadState, BadRequest}
 use Rattle.ground.specs.Refusals.{number, Keeps}
 use Rattle.ground.proofs.Laws.Choice.{cond-elim, or-none, by-test}
-use Rattle.station.specs.Events.{Name}
 use Rattle.station.specs.Limits.{mostData}
+use Rattle.station.specs.Events.{Name}
 use Rattle.request.specs.declared.command.Acceptance.{Acceptance}
 use Rattle.request.specs.declared.command.Acceptance.the-variants.{Accepted, Refused}
 use Rattle.request.specs.Limits.{mostAntenna}

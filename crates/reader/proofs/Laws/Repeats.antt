@@ -10,8 +10,8 @@ use lib.ListN.{length, take}
 use lib.Seq.{take-append-seam}
 use Rattle.ground.specs.Laying.{onto}
 use Rattle.station.specs.declared.event.Event.the-variants.{Frame}
-use Rattle.station.specs.Events.{FRAME}
 use Rattle.station.specs.Limits.{mostData}
+use Rattle.station.specs.Events.{FRAME}
 use Rattle.request.specs.declared.command.Command.{Command}
 use Rattle.request.specs.declared.command.Acceptance.the-variants.{Accepted}
 use Rattle.request.specs.declared.parameter.Parameter.{Parameter}

@@ -11,8 +11,8 @@ use borrow.Author.Tests.{eqb-false, eq-eqb}
 use Rattle.ground.specs.Refusals.{number}
 use Rattle.station.specs.declared.event.Event.{Event}
 use Rattle.station.specs.declared.event.Event.the-variants.{Frame, Check}
-use Rattle.station.specs.Events.{Name, FRAME, CHECK, named}
 use Rattle.station.specs.Limits.{mostData}
+use Rattle.station.specs.Events.{Name, FRAME, CHECK, named}
 use Rattle.request.specs.declared.command.Acceptance.{Acceptance}
 use Rattle.request.specs.declared.command.Acceptance.the-variants.{Refused}
 use Rattle.request.specs.declared.command.Fault.{Fault}

@@ -5,8 +5,8 @@ use Rattle.ground.specs.Each.{Each, none, _and_}
 use Rattle.request.specs.Parameters.{parameterWith, takes}
 use Rattle.request.specs.Cards.{highFirst}
 use Rattle.request.specs.Acceptance.{acceptance}
-use Rattle.request.specs.Requesting.{requestWritten}
 use Rattle.request.specs.Header.{header}
+use Rattle.request.specs.Requesting.{requestWritten}
 use Rattle.request.specs.Examples.{Holds, examples}
 
 pub each-holds : Each Holds examples

@@ -14,11 +14,11 @@ use Rattle.ground.proofs.Laws.Choice.{cond-elim}
 use Rattle.wire.specs.Writing.{After, after, refusing}
 use Rattle.wire.proofs.Laws.Writing.{written-keeps}
 use Rattle.station.specs.declared.line.Line.the-variants.{Point}
-use Rattle.station.specs.Events.{FRAME}
 use Rattle.station.specs.declared.receiver.Receiver.{Receiver}
 use Rattle.station.specs.Frame.{pointContent}
-use Rattle.station.specs.Hearing.{Told, toldAt, IsFresh, Hearing}
 use Rattle.station.specs.Writers.{pointWritten, ByTable, tooLong, badAddress, noRoom, frame}
+use Rattle.station.specs.Events.{FRAME}
+use Rattle.station.specs.Hearing.{Told, toldAt, IsFresh, Hearing}
 use Rattle.station.proofs.Laws.Writers.{point-goes-on, point-by-table}
 use Rattle.station.proofs.Laws.Listed.{point-listed}
 use Rattle.request.specs.declared.command.Command.{Command}

@@ -6,8 +6,8 @@ use mathlib.Core.Bool.{Bool, true, false, cond, true≢false, false≢true}
 use mathlib.Core.List.{List, [], _∷_, _++_}
 use Prim.Native.Nat.{ℕ, _+_}
 use lib.ListN.{take, drop}
-use Rattle.station.specs.Events.{Name, NONE, happened, silent}
 use Rattle.station.specs.declared.receiver.Receiver.{Receiver}
+use Rattle.station.specs.Events.{Name, NONE, happened, silent}
 use Rattle.station.specs.Receiving.{Said, turnAt, moved, hasEvent, outcomeAt, answering, heard, badState, received}
 use Rattle.station.specs.Hearing.{Told, toldAt, note, tells, Hearing, call}
 use Rattle.station.proofs.Laws.Receiving.{hears, received-answers, event-happens, takes-one, stays-good}

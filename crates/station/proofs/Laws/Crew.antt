@@ -20,10 +20,10 @@ use Rattle.station.specs.declared.turn.Turn.the-variants.{Wait, Keep, St
 use Rattle.station.specs.Line.{hasStation, Taken}
 use Rattle.station.specs.Turning.{inside, within, turn}
 use Rattle.station.specs.Rules.{first, Later, onPoint, behind, ByRule, address, waits, plain, pair}
-use Rattle.station.proofs.Laws.Address.{takes-plain}
-use Rattle.station.proofs.Laws.Turning.{rule-only}
 use Rattle.station.specs.Receiving.{outcome}
 use Rattle.station.specs.Hearing.{note}
+use Rattle.station.proofs.Laws.Address.{takes-plain}
+use Rattle.station.proofs.Laws.Turning.{rule-only}
 use Rattle.station.proofs.Laws.View.{View, view, nowhere, next, noted}
 use Rattle.station.proofs.Laws.Cuts.{tell}
 

@@ -9,13 +9,13 @@ use native.Mathlib.Omega.{arith}
 use lib.ListN.{drop, drop-of-length-le}
 use Rattle.ground.proofs.Laws.Lists.{drop-on}
 use Rattle.station.specs.declared.line.Line.{Line}
-use Rattle.station.specs.Line.{hasStation}
 use Rattle.station.specs.declared.receiver.Receiver.{Receiver}
 use Rattle.station.specs.declared.receiver.Heard.{Heard}
+use Rattle.station.specs.Line.{hasStation}
 use Rattle.station.specs.Receiving.{Said, saying, turnAt, moved, hasEvent, outcomeAt, answering, heard, received}
 use Rattle.station.specs.Hearing.{Told, note, tells, Hearing, over, call}
-use Rattle.station.proofs.Laws.Receiving.{heard-elim, hears}
 use Rattle.station.proofs.Laws.Fit.{sound-at, Fit, fit-at, fit-good}
+use Rattle.station.proofs.Laws.Receiving.{heard-elim, hears}
 use Rattle.station.proofs.Laws.View.{View, seen, turns, next, noted, turns-seen, seen-moved, noted-seen, quiet}
 
 -- what the bytes tell one by one, from behind a place on

@@ -18,15 +18,15 @@ use Rattle.station.specs.declared.event.Verdict.{Verdict}
 use Rattle.station.specs.declared.line.Line.{Line}
 use Rattle.station.specs.declared.phase.Phase.the-variants.{Inside}
 use Rattle.station.specs.declared.turn.Turn.the-variants.{Stop}
+use Rattle.station.specs.declared.receiver.Receiver.{Receiver}
 use Rattle.station.specs.Limits.{leastContent}
 use Rattle.station.specs.Line.{checkOn, checked, hasStation}
 use Rattle.station.specs.Events.{Name, FRAME, happened, named, telling, verdict}
 use Rattle.station.specs.Rules.{right}
-use Rattle.station.proofs.Laws.Events.{verdict-only}
-use Rattle.station.specs.declared.receiver.Receiver.{Receiver}
 use Rattle.station.specs.Receiving.{outcome}
 use Rattle.station.specs.Hearing.{Told, toldAt, note, IsFresh, Hearing}
 use Rattle.station.specs.Listing.{Stands, Rise, Lists}
+use Rattle.station.proofs.Laws.Events.{verdict-only}
 use Rattle.station.proofs.Laws.View.{View, view, nowhere, turns, next, noted}
 use Rattle.station.proofs.Laws.Fresh.{fresh-begins}
 use Rattle.station.proofs.Laws.Cuts.{tell, hearing-tells}

@@ -26,12 +26,12 @@ use Rattle.station.specs.Limits.{leastContent}
 use Rattle.station.specs.Line.{checkOn, checked, hasStation, Taken}
 use Rattle.station.specs.Events.{Name, FRAME, LONG, PAIR, ADDR, named, happened, verdict}
 use Rattle.station.specs.Rules.{Address, first, Later, onPoint, behind, ByRule, ignored, begins, stops, address, noAddress, waits, plain, pair, noPair, longPlain, longPair}
-use Rattle.station.proofs.Laws.Address.{takes-plain}
-use Rattle.station.proofs.Laws.Events.{by-stop}
-use Rattle.station.proofs.Laws.Turning.{turn-rule, address-room}
 use Rattle.station.specs.Receiving.{outcome}
 use Rattle.station.specs.Hearing.{Told, toldAt, note}
 use Rattle.station.specs.Listing.{Stands}
+use Rattle.station.proofs.Laws.Address.{takes-plain}
+use Rattle.station.proofs.Laws.Turning.{turn-rule, address-room}
+use Rattle.station.proofs.Laws.Events.{by-stop}
 use Rattle.station.proofs.Laws.View.{View, view, turns, next, noted}
 use Rattle.station.proofs.Laws.Cuts.{tell}
 

@@ -9,13 +9,13 @@ use Rattle.wire.specs.Stuffing.{stuffed, stuffing}
 use Rattle.wire.specs.Image.{image}
 use Rattle.wire.specs.Writing.{imageWritten}
 use Rattle.station.specs.Address.{takes}
-use Rattle.station.specs.Turning.{kept, plain, partner, contentByte, inside, within, turn}
-use Rattle.station.specs.Events.{verdict}
-use Rattle.station.specs.Examples.{Holds, examples}
 use Rattle.station.specs.Frame.{pointContent, addressedContent}
 use Rattle.station.specs.Writers.{written, pointWritten, addressedWritten}
+use Rattle.station.specs.Events.{verdict}
+use Rattle.station.specs.Turning.{kept, plain, partner, contentByte, inside, within, turn}
 use Rattle.station.specs.Receiving.{moved, outcome, heard, received}
 use Rattle.station.specs.Hearing.{note, tells}
+use Rattle.station.specs.Examples.{Holds, examples}
 
 pub each-holds : Each Holds examples
 unfolding stuffed stuffing image shiftStep shiftSteps byteStep run residue fcs fcsBytes total sum checkOf withCheck pointContent addressedContent imageWritten written

@@ -14,12 +14,12 @@ use Rattle.station.specs.declared.event.Verdict.{Verdict}
 use Rattle.station.specs.declared.line.Line.{Line}
 use Rattle.station.specs.declared.turn.Turn.{Turn}
 use Rattle.station.specs.declared.turn.Turn.the-variants.{Rest, Begin, Wait, Keep, Stop, Tell}
+use Rattle.station.specs.declared.receiver.Receiver.{Receiver}
 use Rattle.station.specs.Line.{hasStation}
 use Rattle.station.specs.Events.{verdict}
-use Rattle.station.proofs.Laws.Events.{by-stop}
-use Rattle.station.proofs.Laws.Turning.{Sound, turn-sound}
-use Rattle.station.specs.declared.receiver.Receiver.{Receiver}
 use Rattle.station.specs.Receiving.{fresh, turnAt, moved, outcome, badState}
+use Rattle.station.proofs.Laws.Turning.{Sound, turn-sound}
+use Rattle.station.proofs.Laws.Events.{by-stop}
 
 -- ---- an event carries no more than was kept
 

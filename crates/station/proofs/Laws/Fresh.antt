@@ -8,12 +8,12 @@ use Rattle.ground.specs.declared.refusal.Refusal.the-variants.{None, BadAddress
 use Rattle.ground.specs.Refusals.{number}
 use Rattle.station.specs.declared.line.Line.{Line}
 use Rattle.station.specs.declared.line.Line.the-variants.{Point, Addressed}
+use Rattle.station.specs.declared.receiver.Receiver.{Receiver}
 use Rattle.station.specs.Address.{isBroadcast, isNever, isStation}
 use Rattle.station.specs.Line.{hasStation}
-use Rattle.station.proofs.Laws.Address.{station-kinds}
-use Rattle.station.specs.declared.receiver.Receiver.{Receiver}
 use Rattle.station.specs.Receiving.{fresh, Made, freshMade, badState}
 use Rattle.station.specs.Hearing.{IsFresh, point, addressed}
+use Rattle.station.proofs.Laws.Address.{station-kinds}
 use Rattle.station.proofs.Laws.Fit.{Fit, fresh-fit, fit-good}
 use Rattle.station.proofs.Laws.View.{nowhere, seen}
 

@@ -18,17 +18,16 @@ use Rattle.wire.specs.Image.{image}
 use Rattle.wire.specs.Writing.{After, after}
 use Rattle.station.specs.declared.line.Line.{Line}
 use Rattle.station.specs.declared.line.Line.the-variants.{Point, Addressed}
-use Rattle.station.specs.Limits.{leastContent}
+use Rattle.station.specs.declared.receiver.Receiver.{Receiver}
+use Rattle.station.specs.Limits.{leastContent, mostData}
 use Rattle.station.specs.Address.{isNever, takes}
 use Rattle.station.specs.Line.{checked, hasStation, Taken}
-use Rattle.station.specs.Events.{FRAME}
-use Rattle.station.proofs.Laws.Address.{takes-lt}
-use Rattle.station.specs.declared.receiver.Receiver.{Receiver}
-use Rattle.station.specs.Limits.{mostData}
 use Rattle.station.specs.Frame.{pointContent, addressedContent}
 use Rattle.station.specs.Writers.{written, pointWritten, addressedWritten, ByTable, tooLong, badAddress, noRoom, frame}
+use Rattle.station.specs.Events.{FRAME}
 use Rattle.station.specs.Hearing.{Told, toldAt, IsFresh, Hearing}
 use Rattle.station.specs.Listing.{Fields, onPoint, onAddressed, IsImage}
+use Rattle.station.proofs.Laws.Address.{takes-lt}
 use Rattle.station.proofs.Laws.Frame.{length-point, length-addressed}
 use Rattle.station.proofs.Laws.Writers.{by-table, point-writes, addressed-writes}
 use Rattle.station.proofs.Laws.Fresh.{fresh-begins}

@@ -17,13 +17,13 @@ use Rattle.wire.specs.Limits.{mostContent}
 use Rattle.station.specs.declared.event.Verdict.{Verdict}
 use Rattle.station.specs.declared.turn.Turn.{Turn}
 use Rattle.station.specs.declared.turn.Turn.the-variants.{Rest, Begin, Wait, Keep, Stop, Tell}
-use Rattle.station.specs.Line.{checkOn, hasStation}
-use Rattle.station.specs.Events.{NONE, named, happened, silent, verdict}
-use Rattle.station.proofs.Laws.Events.{by-stop}
-use Rattle.station.proofs.Laws.Turning.{Sound}
 use Rattle.station.specs.declared.receiver.Receiver.{Receiver}
 use Rattle.station.specs.declared.receiver.Heard.{Heard}
+use Rattle.station.specs.Line.{checkOn, hasStation}
+use Rattle.station.specs.Events.{NONE, named, happened, silent, verdict}
 use Rattle.station.specs.Receiving.{soFar, turnAt, moved, hasEvent, outcome, outcomeAt, answering, heard, badState, refusedState, Said, saying, received}
+use Rattle.station.proofs.Laws.Turning.{Sound}
+use Rattle.station.proofs.Laws.Events.{by-stop}
 use Rattle.station.proofs.Laws.Fit.{outcome-length, Leaves, leaves-all, leaves-then, sound-at, leaves-at, Fit, fit-moved}
 
 -- ---- the piece byte by byte

@@ -3,10 +3,10 @@
 use mathlib.Core.Path.{_≡_, ap}
 use Rattle.ground.proofs.Laws.Refusals.{number-injective}
 use Rattle.ground.proofs.Laws.Unique.{same}
-use Rattle.station.proofs.Laws.Events.{named-injective}
 use Rattle.station.specs.declared.receiver.Fresh.{Fresh}
 use Rattle.station.specs.declared.receiver.Heard.{Heard}
 use Rattle.station.specs.Receiving.{Made, made, Said, saying}
+use Rattle.station.proofs.Laws.Events.{named-injective}
 
 -- of a call that makes a receiver or refuses
 pub same-made : {r s : Fresh} {t : Made} → made r ≡ t → made s ≡ t → r ≡ s

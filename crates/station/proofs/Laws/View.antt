@@ -15,13 +15,13 @@ use Rattle.station.specs.declared.phase.Phase.{Phase}
 use Rattle.station.specs.declared.phase.Phase.the-variants.{Outside, Inside, Pending}
 use Rattle.station.specs.declared.turn.Turn.{Turn}
 use Rattle.station.specs.declared.turn.Turn.the-variants.{Rest, Begin, Wait, Keep, Stop, Tell}
+use Rattle.station.specs.declared.receiver.Receiver.{Receiver}
 use Rattle.station.specs.Line.{checkOn}
 use Rattle.station.specs.Events.{named, verdict}
 use Rattle.station.specs.Turning.{turn}
-use Rattle.station.proofs.Laws.Turning.{Sound}
-use Rattle.station.specs.declared.receiver.Receiver.{Receiver}
 use Rattle.station.specs.Receiving.{soFar, turnAt, moved, hasEvent, outcome, outcomeAt}
 use Rattle.station.specs.Hearing.{Told, note}
+use Rattle.station.proofs.Laws.Turning.{Sound}
 use Rattle.station.proofs.Laws.Fit.{outcome-length, Fit}
 
 pub record View : Type 0 where

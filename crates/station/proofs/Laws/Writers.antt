@@ -15,8 +15,8 @@ use Rattle.wire.specs.Image.{image}
 use Rattle.wire.specs.Writing.{After, refusing, putting, imageWritten}
 use Rattle.wire.proofs.Laws.Stuffing.{plain-is}
 use Rattle.wire.proofs.Laws.Writing.{written-short, written-whole, written-keeps as image-keeps}
-use Rattle.station.specs.Address.{isNever}
 use Rattle.station.specs.Limits.{mostData}
+use Rattle.station.specs.Address.{isNever}
 use Rattle.station.specs.Frame.{pointContent, addressedContent}
 use Rattle.station.specs.Writers.{written, pointWritten, addressedWritten, ByTable, tooLong, badAddress, noRoom, frame}
 

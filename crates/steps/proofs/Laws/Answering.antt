@@ -22,8 +22,8 @@ use Rattle.reader.specs.declared.reader.Reader.{Reader}
 use Rattle.reader.specs.declared.reader.Answer.{Answer}
 use Rattle.reader.specs.Limits.{leastFront}
 use Rattle.reader.specs.Parameters.{valueOf, doneTo}
-use Rattle.reader.specs.Memory.{find}
 use Rattle.reader.specs.Replies.{replyContent, replyTo}
+use Rattle.reader.specs.Memory.{find}
 use Rattle.reader.specs.Answering.{being, answering, answerOf, sending, executed, judged, framed, isFront}
 use Rattle.reader.proofs.Laws.Answering.{framed-by}
 use Rattle.steps.specs.Replies.{Fills}

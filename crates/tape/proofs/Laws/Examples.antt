@@ -7,15 +7,15 @@ use Rattle.checks.specs.Sum.{total, sum}
 use Rattle.checks.specs.Check.{checkOf, withCheck, front, came, alike, isRight}
 use Rattle.wire.specs.Stuffing.{stuffed, stuffing}
 use Rattle.station.specs.Address.{takes}
-use Rattle.station.specs.Turning.{kept, plain, partner, contentByte, inside, within, turn}
 use Rattle.station.specs.Events.{verdict}
+use Rattle.station.specs.Turning.{kept, plain, partner, contentByte, inside, within, turn}
 use Rattle.station.specs.Receiving.{moved, outcome, heard, received}
 use Rattle.text.specs.Ascii.{ascii}
 use Rattle.text.specs.Decimal.{spelled}
 use Rattle.text.specs.Hex.{digit, further, pairs}
 use Rattle.lines.specs.Lines.{headerLine, letter, line, nameOf, eventLine, word, lastLine}
-use Rattle.tape.specs.Examples.{Holds, examples}
 use Rattle.tape.specs.Whole.{kind, parts, entryOf, entries, entryLines, listing}
+use Rattle.tape.specs.Examples.{Holds, examples}
 
 pub each-holds : Each Holds examples
 unfolding stuffed stuffing shiftStep shiftSteps byteStep run residue fcs fcsBytes total sum checkOf withCheck front came alike isRight

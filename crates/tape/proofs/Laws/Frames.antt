@@ -10,8 +10,8 @@ use native.Mathlib.Omega.{arith}
 use lib.ListN.{length, drop, length-append}
 use Rattle.ground.proofs.Laws.Choice.{cond-elim}
 use Rattle.ground.proofs.Laws.Lists.{drop-on, drop-none}
-use Rattle.station.specs.Events.{Name, FRAME, happened}
 use Rattle.station.specs.declared.receiver.Receiver.{Receiver}
+use Rattle.station.specs.Events.{Name, FRAME, happened}
 use Rattle.station.specs.Receiving.{Said, badState, received}
 use Rattle.station.specs.Hearing.{Told, toldAt, note, IsFresh, Hearing, over}
 use Rattle.station.specs.Listing.{Lists}

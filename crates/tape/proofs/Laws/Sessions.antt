@@ -25,8 +25,8 @@ use Rattle.tape.specs.Taping.{freshTape, stepped, isOver, going, Told, r
 use Rattle.tape.specs.Sessions.{Written, Session, over, call, Listing, begun}
 use Rattle.tape.proofs.Laws.Fine.{step-fine}
 use Rattle.tape.proofs.Laws.Taping.{listed-elim, fresh-fine}
-use Rattle.tape.proofs.Laws.Frames.{frames-shown}
 use Rattle.tape.proofs.Laws.Remaining.{remaining, going-remains, over-remains, remaining-listed}
+use Rattle.tape.proofs.Laws.Frames.{frames-shown}
 
 -- ---- what is written
 

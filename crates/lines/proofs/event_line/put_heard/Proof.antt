@@ -15,8 +15,8 @@ use Rattle.ground.proofs.Laws.Laying.{placed-nil}
 use Rattle.station.specs.declared.event.Event.{Event}
 use Rattle.station.specs.declared.event.Event.the-variants.{None, Frame, Check, Short, Long, Pair, Addr}
 use Rattle.station.specs.Events.{named, happened}
-use Rattle.station.proofs.event.Event as event
 use Rattle.station.specs.Receiving.{saying}
+use Rattle.station.proofs.event.Event as event
 use Rattle.lines.specs.declared.side.Side.{Side}
 use Rattle.lines.specs.Lines.{line, nameOf, eventLine, carried}
 use Rattle.lines.proofs.Laws.Lines.{no-line, frame-line, refuses-long, refuses-room, puts-heard}

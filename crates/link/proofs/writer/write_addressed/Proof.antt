@@ -8,11 +8,11 @@ use lib.ListN.{length}
 use borrow.Author.Needs.{needs}
 use Rattle.checks.specs.declared.kind.Check.the-variants.{Sum}
 use Rattle.wire.proofs.Laws.Stuffing.{plain-is, special-is}
-use Rattle.frames.proofs.Laws.Frame.{frame-within}
 use Rattle.station.specs.Limits.{mostData}
 use Rattle.station.specs.Frame.{addressedContent}
 use Rattle.station.specs.Writers.{addressedWritten}
 use Rattle.station.proofs.Laws.Writers.{refuses-length, refuses-address, goes-on}
+use Rattle.frames.proofs.Laws.Frame.{frame-within}
 use Rattle.link.proofs.writer.write_addressed.Statement.{statement}
 use Rattle.link.proofs.writer.write_addressed.Tie as tie
 

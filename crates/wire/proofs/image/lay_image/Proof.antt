@@ -7,8 +7,8 @@ use native.Mathlib.Omega.{arith}
 use borrow.Rule.Slice.PartMut.{putMid}
 use lib.ListN.{length, set, length-set, length-take, length-drop}
 use borrow.Author.Needs.{needs}
-use Rattle.ground.specs.Laying.{laid}
 use Rattle.ground.specs.Refusals.{counted}
+use Rattle.ground.specs.Laying.{laid}
 use Rattle.ground.proofs.Laws.Laying.{laid-part, length-laid}
 use Rattle.wire.specs.Stuffing.{stuffing}
 use Rattle.wire.specs.Image.{start, stop, image}

@@ -1,9 +1,9 @@
 -- `buffer::to_send` meets its contract: the part is taken from the buffer that is meant.
 -- Assumes nothing.
 use borrow.Author.Needs.{needs}
 use Rattle.reader.specs.Sending.{sent}
-use Rattle.reader.proofs.buffer.to_send.Statement.{statement}
-use Rattle.reader.proofs.buffer.to_send.Tie as tie
+use Rattle.steps.proofs.buffer.to_send.Statement.{statement}
+use Rattle.steps.proofs.buffer.to_send.Tie as tie
 
 enum-told : tie.Need-enum-told
 enum-told c = search needs

@@ -4,8 +4,8 @@ use mathlib.Core.Path.{sym}
 use lib.Seq.{length-take-le}
 use borrow.Author.Tests.{lt-ltb, le-ltb}
 use borrow.Author.Needs.{needs}
-use Rattle.reader.proofs.buffer.part.Statement.{statement}
-use Rattle.reader.proofs.buffer.part.Tie as tie
+use Rattle.steps.proofs.buffer.part.Statement.{statement}
+use Rattle.steps.proofs.buffer.part.Tie as tie
 
 slice-aggregate-result : tie.Need-slice-aggregate-result
 slice-aggregate-result c = search needs

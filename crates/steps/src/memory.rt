@@ -1,0 +1,42 @@
+// Whether a frame repeats the last executed command.
+use reader::limits::ROOM;
+use reader::memory::Memory;
+use reader::memory::Repeat;
+ghost use mathlib.Core.Path.{_≡_};
+ghost use Rattle.reader.specs.Memory.{find as findOf, tooFar};
+
+// What a frame with this identifier and command is.
+pub(crate) fn find(memory: Memory, identifier: u8, command: u8) -> Repeat
+    ensures { λ r. ⌜ r ≡ findOf memory identifier command ⌝ }
+{
+    match memory {
+        Memory::None => Repeat::New,
+        Memory::Last {
+            identifier: last,
+            command: executed,
+            length,
+        } => {
+            if last != identifier {
+                return Repeat::New;
+            }
+            if executed != command {
+                return Repeat::New;
+            }
+            Repeat::Stored(length)
+        }
+    }
+}
+
+// Whether the remembered length is over 130.
+pub(crate) fn is_too_far(memory: Memory) -> bool
+    ensures { λ r. ⌜ r ≡ tooFar memory ⌝ }
+{
+    match memory {
+        Memory::None => false,
+        Memory::Last {
+            identifier: _,
+            command: _,
+            length,
+        } => length > ROOM,
+    }
+}
