@@ -7,7 +7,7 @@ use link::receiver::fresh_point;
 use reader::reader::Reader;
 use station::line::MASTER;
 use station::receiver::Receiver;
-use steps::reader::fresh_reader;
+use steps::record::fresh_reader;
 
 // A receiver of each line, and a point reader with its two buffers.
 pub(crate) struct Bench {

@@ -137,7 +137,7 @@ fn put_reader(reader: Reader, text: Text) -> Text {
 
 pub(crate) fn power_on(mut bench: Bench, text: Text) -> Done {
     let reader = bench.reader;
-    let powered = steps::reader::power_on(reader);
+    let powered = steps::record::power_on(reader);
     let refusal = powered.refusal;
     let reader = powered.reader;
     bench.reader = reader;

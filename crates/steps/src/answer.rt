@@ -1,7 +1,7 @@
 // The call that does the steps of the point reader.
 use crate::asking::asked_by;
 use crate::memory::find;
-use crate::reader::is_bad;
+use crate::record::is_bad;
 use crate::reply::WRONG_CHECK;
 use crate::reply::write_nack;
 use crate::reply::write_reply;

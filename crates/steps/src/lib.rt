@@ -3,6 +3,6 @@ pub mod answer;
 mod asking;
 pub mod buffer;
 mod memory;
-pub mod reader;
+pub mod record;
 mod reply;
 mod values;

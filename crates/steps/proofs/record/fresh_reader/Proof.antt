@@ -1,8 +1,8 @@
--- `reader::fresh_reader` meets its contract.
+-- `record::fresh_reader` meets its contract.
 -- Assumes nothing.
 use borrow.Author.Needs.{needs}
-use Rattle.steps.proofs.reader.fresh_reader.Statement.{statement}
-use Rattle.steps.proofs.reader.fresh_reader.Tie as tie
+use Rattle.steps.proofs.record.fresh_reader.Statement.{statement}
+use Rattle.steps.proofs.record.fresh_reader.Tie as tie
 
 fresh-parameters-requires : tie.Need-fresh-parameters-requires
 fresh-parameters-requires c κs = search needs

@@ -1,4 +1,4 @@
-// A reader as it is delivered, and after power-on.
+// A reader's record as it is delivered, and after power-on.
 use crate::memory::is_too_far;
 use ground::refusal::Refusal;
 use reader::memory::Memory;

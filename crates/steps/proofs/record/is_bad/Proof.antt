@@ -1,9 +1,9 @@
--- `reader::is_bad` meets its contract.
+-- `record::is_bad` meets its contract.
 -- Assumes nothing.
 use mathlib.Core.Path.{sym, _∙_}
 use borrow.Author.Needs.{needs}
-use Rattle.steps.proofs.reader.is_bad.Statement.{statement}
-use Rattle.steps.proofs.reader.is_bad.Tie as tie
+use Rattle.steps.proofs.record.is_bad.Statement.{statement}
+use Rattle.steps.proofs.record.is_bad.Tie as tie
 
 is-speed-requires : tie.Need-is-speed-requires
 is-speed-requires c κs = search needs

@@ -1,10 +1,10 @@
--- `reader::power_on` meets its contract.
+-- `record::power_on` meets its contract.
 -- Assumes nothing.
 use mathlib.Core.Path.{sym, _∙_}
 use borrow.Author.Needs.{needs}
 use Rattle.reader.specs.Answering.{poweredOn}
-use Rattle.steps.proofs.reader.power_on.Statement.{statement}
-use Rattle.steps.proofs.reader.power_on.Tie as tie
+use Rattle.steps.proofs.record.power_on.Statement.{statement}
+use Rattle.steps.proofs.record.power_on.Tie as tie
 
 is-bad-requires : tie.Need-is-bad-requires
 is-bad-requires c κs = search needs
