@@ -1,3 +1,3 @@
-// What every room above stands on: refusals by their numbers, counts, and bytes put into a lent buffer.
+// What every crate above stands on: refusals by their numbers, counts, and bytes put into a lent buffer.
 pub mod laying;
 pub mod refusal;

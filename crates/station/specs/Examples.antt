@@ -4,7 +4,7 @@ use Prim.Native.Nat.{ℕ}
 use mathlib.Core.Path.{_≡_}
 use mathlib.Core.Bool.{true}
 use mathlib.Core.List.{List, [], _∷_, _++_}
-use lib.ListN.{replicate}
+use lib.ListN.{replicate, drop}
 use Rattle.checks.specs.declared.kind.Check.{Check}
 use Rattle.checks.specs.declared.kind.Check.the-variants.{Fcs, Sum}
 use Rattle.checks.specs.Check.{withCheck, isRight}
@@ -31,6 +31,8 @@ pub data Example : Type 0 where
   stops : (check : Check) (content : List ℕ) (event : Name) → Example
   -- to a fresh receiver the stream tells this first
   hears : (line : Line) (stream : List ℕ) (place : ℕ) (event : Name) (content : List ℕ) → Example
+  -- and this next, to a second call that continues where the first stopped
+  hearsNext : (line : Line) (stream : List ℕ) (place : ℕ) (event : Name) (content : List ℕ) → Example
 
 abbrev pub Holds : Example → Type 0
 Holds (pointImage identifier command «data» printed) = image (pointContent identifier command «data») ≡ printed
@@ -43,6 +45,9 @@ Holds (addressedWrites address identifier command «data» room refusal count) =
 Holds (rightCheck check content) = isRight check content ≡ true
 Holds (stops check content event) = named (verdict check content .event) ≡ event
 Holds (hears line stream place event content) = tells 0 (received (fresh line) stream) ≡ toldAt place event content ∷ []
+Holds (hearsNext line stream place event content) =
+    let first = received (fresh line) stream in
+    tells (first .taken) (received (first .receiver) (drop (first .taken) stream)) ≡ toldAt place event content ∷ []
 
 abbrev master : Line
 master = Addressed 0x00
@@ -83,6 +88,9 @@ examples =
     ∷ hears master (0xFD ∷ 0x05 ∷ []) 2 ADDR []
     -- P10: one FRAME
     ∷ hears Point (0xFD ∷ 0xFD ∷ 0x00 ∷ 0x00 ∷ 0x47 ∷ 0x0F ∷ 0xFE ∷ []) 7 FRAME (0x00 ∷ 0x00 ∷ [])
+    -- a frame behind another, and one behind what is no frame
+    ∷ hearsNext Point (0xFD ∷ 0x00 ∷ 0x00 ∷ 0x47 ∷ 0x0F ∷ 0xFE ∷ 0xFD ∷ 0x00 ∷ 0x00 ∷ 0x47 ∷ 0x0F ∷ 0xFE ∷ []) 12 FRAME (0x00 ∷ 0x00 ∷ [])
+    ∷ hearsNext master (0xFD ∷ 0x05 ∷ 0xFD ∷ 0x00 ∷ 0x01 ∷ 0x10 ∷ 0x11 ∷ 0xFE ∷ []) 8 FRAME (0x00 ∷ 0x01 ∷ 0x10 ∷ [])
     -- P11: CHECK
     ∷ hears Point (0xFD ∷ 0x00 ∷ 0x00 ∷ 0x47 ∷ 0x0E ∷ 0xFE ∷ []) 6 CHECK (0x00 ∷ 0x00 ∷ [])
     -- a reader takes its own address, and no other reader's

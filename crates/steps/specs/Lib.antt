@@ -1,2 +1,2 @@
--- What the functions inside this library promise each other. What its one call does is said in `reader`: Answering.
+-- What the functions inside this library promise each other. What its calls do is said in `reader`: Answering and Sending.
 pub mod Replies

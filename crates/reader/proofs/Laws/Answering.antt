@@ -30,7 +30,12 @@ use Rattle.reader.specs.Asking.{asking}
 use Rattle.reader.specs.Memory.{find}
 use Rattle.reader.specs.Answering.{being, badState, PoweredOn, poweredOn, Answered, refusing, judged, recalled, framed, stepped, Lent, isFront, fits, heeded, answered, ByTable, state, noStore, noOut, tooLong, request, steps}
 
--- power-on of a good reader
+-- power-on: row 4 of the refusal table, when
+pub refuses-power : (s : Reader) → badState s ≡ true → poweredOn s ≡ record { refusal = number BadState; reader = s }
+unfolding poweredOn
+refuses-power s bad = rw bad
+
+-- and else it is that of a good reader
 pub powers-on : (s : Reader) → badState s ≡ false → poweredOn s ≡ record { refusal = 0; reader = being (s .parameters) Memory.None }
 unfolding poweredOn
 powers-on s good = rw good

@@ -22,6 +22,7 @@ use Rattle.reader.specs.declared.reader.Reader.{Reader}
 use Rattle.reader.specs.Asking.{asking}
 use Rattle.reader.specs.Answering.{Answered, judged, stepped, answered}
 use Rattle.reader.specs.Sessions.{Executed, History, repeats, judgedNext, next, executes, Kept, Session, called, Idle, rests, heeds}
+use Rattle.reader.specs.Promises.{Same}
 use Rattle.reader.proofs.Laws.Answering.{row-elim}
 use Rattle.reader.proofs.Laws.Agreeing.{memoryOf, Agrees, agrees-lent, recalledAs, judgedAs, framed-told, told-step}
 use Rattle.reader.proofs.Laws.Sessions.{session-agrees}
@@ -82,12 +83,6 @@ module _ (s : Reader) (header antenna store out content : List ℕ) where
       (λ lent _ idle. step-keeps (asking event) h (a .memory)
       (idle (told-step alone s header antenna store out whole lent (asking event) content h a .none)))
 
--- so after any sequence of them the reader is the same, the store too if nobody else wrote to it, and the same is told
-pub record Same (alone : Bool) (h : History) (s : Reader) (held : List ℕ) (t : Reader) (kept : List ℕ) : Type 0 where
-  pub session : Session false t kept h
-  pub reader : t ≡ s
-  pub store : alone ≡ true → kept ≡ held
-
 told-same : (n : ℕ) {h k : History} → (n ≡ 0 → k ≡ h) → cond (eqb n 0) k h ≡ h
 told-same n {h} {k} same = cond-elim (λ (l : History). l ≡ h) (eqb n 0) (λ e. same (eqb-true n 0 e)) (λ _. refl)
 
@@ -95,6 +90,7 @@ kept-same : (alone : Bool) {held store : List ℕ} → Kept alone held store →
 kept-same true kept single = kept
 kept-same false kept single = absurd (true≢false (sym single))
 
+-- so after any sequence of them all is as before
 pub idle-keeps : {alone : Bool} {s t : Reader} {held kept : List ℕ} {h : History} → Session false s held h → Idle alone h s held t kept
     → Same alone h s held t kept
 idle-keeps se rests = record { session = se; reader = refl; store = λ _. refl }

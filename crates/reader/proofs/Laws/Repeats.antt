@@ -27,15 +27,10 @@ use Rattle.reader.specs.Replies.{replyImage, replyTo}
 use Rattle.reader.specs.Answering.{Answered, answering, Lent, sending, judged, executed, answered}
 use Rattle.reader.specs.Sending.{sent}
 use Rattle.reader.specs.Sessions.{Executed, imageOf, History, repeats, next, Session, Idle}
+use Rattle.reader.specs.Promises.{Repeated}
 use Rattle.reader.proofs.Laws.Sending.{sent-out}
 use Rattle.reader.proofs.Laws.Sessions.{session-agrees, session-on, session-judges, repeat-stored, repeat-sends}
 use Rattle.reader.proofs.Laws.Idle.{idle-keeps}
-
--- what a repeat does: no record and no byte changes, and what it sends is what was sent
-pub record Repeated (executes again : Answer) (t : Reader) (store₁ out₁ kept out store₂ out₂ : List ℕ) : Type 0 where
-  pub reader : t ≡ executes .reader
-  pub unchanged : answering again store₂ out₂ ≡ sending t Store (executes .length) kept out
-  pub sends : sent Store (executes .length) kept out ≡ sent (executes .buffer) (executes .length) store₁ out₁
 
 module _ {s : Reader} {held store₁ out₁ : List ℕ} {h : History} {command : Command} (se : Session false s held h) (r : Answer)
     (identifier code : ℕ)

@@ -31,6 +31,7 @@ use Rattle.reader.specs.Replies.{replyImage, replyTo}
 use Rattle.reader.specs.Answering.{answering, answered}
 use Rattle.reader.specs.Sending.{sent}
 use Rattle.reader.specs.Sessions.{History, repeats, valuesAfter, judgedNext, next, executes, Kept, Session, powered, called, Unwritten, still, power, other}
+use Rattle.reader.specs.Promises.{KeptValue}
 use Rattle.reader.proofs.Laws.Sessions.{session-replies, session-on}
 use Rattle.reader.proofs.Laws.Idle.{executes-nothing}
 
@@ -74,10 +75,6 @@ call-kept p h content header antenna asked idle =
     (λ e. ap (λ (k : History). k .value p) (executes-nothing h content header antenna asked e))
 
 -- so does every sequence of such calls and of power-ons
-pub record KeptValue (alone : Bool) (p : Parameter) (h : History) (t : Reader) (kept : List ℕ) (k : History) : Type 0 where
-  pub session : Session alone t kept k
-  pub value : k .value p ≡ h .value p
-
 pub unwritten-value : {alone : Bool} {p : Parameter} {s t : Reader} {held kept : List ℕ} {h k : History} → Session alone s held h
     → Unwritten alone p s held h t kept k
     → KeptValue alone p h t kept k

@@ -1,4 +1,4 @@
--- Laws of writing an image: what stands in the buffer, what is asked before, and what a refusal leaves.
+-- Laws of an image's length asked, and of writing it: what stands in the buffer, what is asked before, and what a refusal leaves.
 -- Assumes nothing.
 use mathlib.Core.Path.{_≡_, refl, _∙_}
 use mathlib.Core.List.{List, [], _∷_, _++_}
@@ -8,15 +8,24 @@ use lib.Dec.{ltb}
 use lib.ListN.{length, drop, set, length-set}
 use borrow.Author.Tests.{lt-ltb, le-ltb}
 use Rattle.ground.specs.declared.refusal.Refusal.the-variants.{NoRoom, TooLong}
-use Rattle.ground.specs.Refusals.{Keeps}
+use Rattle.ground.specs.Refusals.{Keeps, refused, counted}
 use Rattle.ground.specs.Laying.{laid}
 use Rattle.ground.proofs.Laws.Choice.{cond-elim}
 use Rattle.ground.proofs.Laws.Laying.{laid-next, laid-front, set-behind}
 use Rattle.wire.specs.Limits.{mostContent}
 use Rattle.wire.specs.Stuffing.{stuffing}
-use Rattle.wire.specs.Image.{start, stop, image}
-use Rattle.wire.specs.Writing.{After, refusing, putting, imageWritten, imageAsked}
+use Rattle.wire.specs.Image.{start, stop, image, imageLength}
+use Rattle.wire.specs.Writing.{lengthAsked, After, refusing, putting, imageWritten, imageAsked}
 use Rattle.wire.proofs.Laws.Image.{length-image, imageLength-stuffing}
+
+-- row 2 of the refusal table, of a length asked: when, and else it is the image's
+pub length-over : (content : List ℕ) → mostContent < length content → lengthAsked content ≡ refused TooLong
+unfolding lengthAsked
+length-over content over = rw (lt-ltb mostContent (length content) over)
+
+pub length-within : (content : List ℕ) → length content ≤ mostContent → lengthAsked content ≡ counted (imageLength content)
+unfolding lengthAsked
+length-within content within = rw (le-ltb mostContent (length content) within)
 
 -- start, then the stuffing in the room behind it, then stop: the image stands in front
 pub image-laid : (content out : List ℕ) → length (image content) ≤ length out
