@@ -4,10 +4,13 @@ use ground::laying::room;
 use ground::refusal::Refusal;
 use lines::limits::LEAST_ROOM;
 use tape::next::Next;
-use tape::next::behind_kind;
 use tape::receivers::Receivers;
 use tape::tape::Listed;
 use tape::tape::Tape;
+use taping::next::behind_kind;
+use taping::receivers::on;
+use taping::receivers::turned;
+use taping::record::is_bad;
 ghost use mathlib.Core.Path.{_≡_};
 ghost use mathlib.Core.Bool.{false};
 ghost use mathlib.Core.List.{[]};
@@ -25,7 +28,7 @@ const MOST_RUN: usize = 128;
 pub fn list(tape: Tape, chunk: &[u8], out: &mut [u8]) -> Listed
     ensures { λ r. ⌜ told r (now (out .exit)) ≡ listed tape (now (chunk .entry)) (now (out .entry)) ⌝ }
 {
-    if tape.is_bad() {
+    if is_bad(tape) {
         return refused(Refusal::BadState, tape);
     }
     if out.len() < LEAST_ROOM {
@@ -53,10 +56,10 @@ fn go(tape: Tape, chunk: &[u8], out: &mut [u8]) -> Listed
                 taken += 1;
             }
             Next::Body(side) => {
-                let receiver = receivers.on(side);
+                let receiver = on(receivers, side);
                 let rest = &chunk[taken..];
                 let ran = run(side, receiver, records, rest, &mut piece, out, written);
-                receivers = receivers.turned(side, ran.receiver);
+                receivers = turned(receivers, side, ran.receiver);
                 records += ran.count as u32;
                 taken += 2 * ran.count - 1;
                 written = ran.end;

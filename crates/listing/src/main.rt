@@ -4,8 +4,10 @@ use libc::STDERR_FILENO;
 use libc::STDIN_FILENO;
 use libc::STDOUT_FILENO;
 use lines::ends::write_header;
-use tape::ends::write_last;
 use tape::tape::Tape;
+use taping::ends::write_last;
+use taping::record::fresh_tape;
+use taping::record::is_over;
 ghost use Prim.Native.Nat.{_≤_};
 ghost use Rattle.tape.specs.Limits.{mostRecords};
 
@@ -52,7 +54,7 @@ fn list_chunk(tape: Tape, chunk: &[u8], text: &mut [u8]) -> Progress
         }
         taken += listed.taken;
     }
-    let course = if tape.is_over() {
+    let course = if is_over(tape) {
         Course::Over
     } else {
         Course::Reading
@@ -65,7 +67,7 @@ fn halted(tape: Tape) -> Progress
     requires { ⌜ tape .records ≤ mostRecords ⌝ }
     ensures { λ r. ⌜ r .tape .records ≤ mostRecords ⌝ }
 {
-    if tape.is_over() {
+    if is_over(tape) {
         return Progress {
             tape,
             course: Course::Over,
@@ -107,7 +109,7 @@ const MOST_BLOCKS: u64 = 0x2_0000_0000;
 // Lists a whole tape.
 fn list_tape(text: &mut [u8]) {
     let mut block = io::large_buffer();
-    let mut tape = Tape::fresh();
+    let mut tape = fresh_tape();
     let mut turns = MOST_BLOCKS;
     while turns > 0 {
         turns -= 1;

@@ -23,12 +23,12 @@ abbrev μ-loop : tie.MeasureT-loop
 large-buffer-requires : tie.Need-large-buffer-requires Inv-loop μ-loop
 large-buffer-requires c κs = tt
 
-fresh-requires : tie.Need-fresh-requires Inv-loop μ-loop
-fresh-requires c κs = tt
+fresh-tape-requires : tie.Need-fresh-tape-requires Inv-loop μ-loop
+fresh-tape-requires c κs = tt
 
 loop-holds : tie.Need-loop-holds Inv-loop μ-loop
 loop-holds c =
-    (refl, sym (c .before .large-buffer .ensures), omega (arith, ap (λ (t : Tape). t .records) (c .fresh .ensures)))
+    (refl, sym (c .before .large-buffer .ensures), omega (arith, ap (λ (t : Tape). t .records) (c .fresh-tape .ensures)))
 
 sub-turns : tie.Need-sub-turns Inv-loop μ-loop
 sub-turns c = omega arith
@@ -105,7 +105,7 @@ list-tape-spec =
     Inv-loop
     μ-loop
     large-buffer-requires
-    fresh-requires
+    fresh-tape-requires
     loop-holds
     sub-turns
     slice-aggregate-list-block

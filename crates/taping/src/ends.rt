@@ -1,11 +1,11 @@
 // The last line of a tape's listing.
-use crate::next::Next;
-use crate::tape::Tape;
 use ground::laying::Placed;
 use lines::ends::Ending;
+use tape::next::Next;
+use tape::tape::Tape;
 ghost use mathlib.Core.Path.{_≡_};
 ghost use Rattle.ground.specs.Laying.{ended, put as putOf};
 ghost use Rattle.tape.specs.Taping.{ending as endingOf, lastOf};
 
 // Writes the last line of a tape that ends here to the front of `out`. Refuses an `out` that is shorter (NoRoom).
 pub fn write_last(tape: Tape, out: &mut [u8]) -> Placed

@@ -5,8 +5,8 @@ use borrow.Author.Needs.{needs}
 use Rattle.ground.specs.Laying.{put}
 use Rattle.lines.specs.declared.ends.Ending.{Ending}
 use Rattle.lines.specs.Lines.{lastLine}
-use Rattle.tape.proofs.ends.write_last.Statement.{statement}
-use Rattle.tape.proofs.ends.write_last.Tie as tie
+use Rattle.taping.proofs.ends.write_last.Statement.{statement}
+use Rattle.taping.proofs.ends.write_last.Tie as tie
 
 ending-requires : tie.Need-ending-requires
 ending-requires c κs = search needs

@@ -1,9 +1,9 @@
--- `Receivers::is_bad` meets its contract.
+-- `receivers::has_bad` meets its contract.
 -- Assumes nothing.
 use mathlib.Core.Path.{sym, _∙_}
 use borrow.Author.Needs.{needs}
-use Rattle.tape.proofs.receivers.Receivers.is_bad.Statement.{statement}
-use Rattle.tape.proofs.receivers.Receivers.is_bad.Tie as tie
+use Rattle.taping.proofs.receivers.has_bad.Statement.{statement}
+use Rattle.taping.proofs.receivers.has_bad.Tie as tie
 
 is-refused-requires : tie.Need-is-refused-requires
 is-refused-requires c κs = search needs
@@ -18,5 +18,5 @@ returns-2 : tie.Need-returns-2
 returns-2 c =
     rw (sym (c .before .before .before .is-refused .ensures) ∙ c .before .before .if1 .left) (c .is-refused2 .ensures)
 
-pub is-bad-spec : {M : Type 1} → statement M
-is-bad-spec = tie.close (tie.spec is-refused-requires returns is-refused-requires-2 returns-2)
+pub has-bad-spec : {M : Type 1} → statement M
+has-bad-spec = tie.close (tie.spec is-refused-requires returns is-refused-requires-2 returns-2)

@@ -10,8 +10,8 @@ use Rattle.ground.specs.declared.refusal.Refusal.the-variants.{BadState}
 use Rattle.ground.specs.Refusals.{number}
 use Rattle.station.specs.Receiving.{Said, badState}
 use Rattle.station.proofs.Laws.Receiving.{refused-only}
-use Rattle.tape.proofs.receivers.is_refused.Statement.{statement}
-use Rattle.tape.proofs.receivers.is_refused.Tie as tie
+use Rattle.taping.proofs.receivers.is_refused.Statement.{statement}
+use Rattle.taping.proofs.receivers.is_refused.Tie as tie
 
 slice-aggregate-receive : tie.Need-slice-aggregate-receive
 slice-aggregate-receive c = search needs

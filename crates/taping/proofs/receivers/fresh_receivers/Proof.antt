@@ -1,12 +1,12 @@
--- `Receivers::fresh` meets its contract.
+-- `receivers::fresh_receivers` meets its contract.
 -- Assumes nothing.
 use mathlib.Core.Path.{ap, ap₂, _∙_}
 use borrow.Author.Needs.{needs}
 use Rattle.station.specs.declared.receiver.Receiver.{Receiver}
 use Rattle.station.specs.Receiving.{Made}
 use Rattle.station.proofs.Laws.Fresh.{receiver-made}
-use Rattle.tape.proofs.receivers.Receivers.fresh.Statement.{statement}
-use Rattle.tape.proofs.receivers.Receivers.fresh.Tie as tie
+use Rattle.taping.proofs.receivers.fresh_receivers.Statement.{statement}
+use Rattle.taping.proofs.receivers.fresh_receivers.Tie as tie
 
 fresh-addressed-requires : tie.Need-fresh-addressed-requires
 fresh-addressed-requires c κs = search needs
@@ -19,5 +19,5 @@ returns c =
     ap₂ (λ (p a : Receiver). record { point = p; addressed = a }) (c .fresh-point .ensures)
     (ap (λ (m : Made). m .receiver) (c .before .before .fresh-addressed .ensures) ∙ receiver-made 0x00)
 
-pub fresh-spec : {M : Type 1} → statement M
-fresh-spec = tie.close (tie.spec fresh-addressed-requires fresh-point-requires returns)
+pub fresh-receivers-spec : {M : Type 1} → statement M
+fresh-receivers-spec = tie.close (tie.spec fresh-addressed-requires fresh-point-requires returns)

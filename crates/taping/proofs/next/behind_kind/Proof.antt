@@ -1,10 +1,10 @@
 -- `next::behind_kind` meets its contract.
 -- Assumes nothing.
 use borrow.Author.Tests.{eq-eqb, ne-eqb}
 use Rattle.tape.specs.Whole.{kind}
 use Rattle.tape.specs.Taping.{behindKind}
-use Rattle.tape.proofs.next.behind_kind.Statement.{statement}
-use Rattle.tape.proofs.next.behind_kind.Tie as tie
+use Rattle.taping.proofs.next.behind_kind.Statement.{statement}
+use Rattle.taping.proofs.next.behind_kind.Tie as tie
 
 returns : tie.Need-returns
 unfolding behindKind

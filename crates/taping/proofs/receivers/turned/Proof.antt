@@ -1,8 +1,8 @@
--- `Receivers::turned` meets its contract.
+-- `receivers::turned` meets its contract.
 -- Assumes nothing.
 use borrow.Author.Needs.{needs}
-use Rattle.tape.proofs.receivers.Receivers.turned.Statement.{statement}
-use Rattle.tape.proofs.receivers.Receivers.turned.Tie as tie
+use Rattle.taping.proofs.receivers.turned.Statement.{statement}
+use Rattle.taping.proofs.receivers.turned.Tie as tie
 
 enum-told : tie.Need-enum-told
 enum-told c = search needs
