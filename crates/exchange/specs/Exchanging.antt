@@ -13,12 +13,12 @@ use Rattle.request.specs.declared.command.Acceptance.the-variants.{Accepted, Re
 use Rattle.request.specs.declared.command.Fault.{Fault}
 use Rattle.request.specs.Acceptance.{acceptance, nackOf}
 use Rattle.request.specs.Replies.{Reply, NACK, sign, frontOf}
+use Rattle.request.specs.Reading.{accepting, replyRead}
 use Rattle.reader.specs.declared.reader.Reader.{Reader}
 use Rattle.reader.specs.declared.reader.Answer.{Answer}
 use Rattle.reader.specs.Replies.{IsAnswer, replyImage, replyTo}
 use Rattle.reader.specs.Sending.{sent}
 use Rattle.reader.specs.Sessions.{History, judgedNext, Session}
-use Rattle.master.specs.Reading.{accepting, replyRead}
 
 -- A call executed a request: it sends the reply that the table has for the values written so far, and the session goes on with what the
 -- command did, and with it as the last one executed.

@@ -1,31 +1,20 @@
 // The master's reading of a reply.
+use commands::card::is_code;
+use commands::command::accept;
+use commands::parameter::length_of;
 use ground::refusal::Refusal;
-use request::card::is_code;
 use request::command::Acceptance;
 use request::command::Command;
-use request::command::accept;
 use request::header::HEADER_LENGTH;
-use request::parameter::length_of;
+use request::reading::Meaning;
+use request::reading::Reading;
 use request::sign::ACK;
 use request::sign::SIGN;
 ghost use mathlib.Core.Path.{_≡_};
 ghost use Rattle.request.specs.Replies.{dataOf};
-ghost use Rattle.master.specs.Reading.{telling, readingOf, isWrite, isNack, isDue, dataRead, signRead, readAs, replyRead};
+ghost use Rattle.request.specs.Reading.{telling, readingOf, isWrite, isNack, isDue, dataRead, signRead, readAs, replyRead};
 
 const MOST_NACK: u8 = 6;
-
-// What a reply says; none where the call refused. Its data is what `data_of` hands back.
-pub enum Meaning {
-    None,
-    Ack,
-    Nack(u8),
-    Data,
-}
-
-pub struct Reading {
-    pub refusal: Refusal,
-    pub meaning: Meaning,
-}
 
 // Reads the reply to a request: its content, the check cut off. Refuses a request that a reader does not accept (BadRequest), a reply
 // with another identifier or none (WrongId), with another command, none or an echoed write (WrongCommand), with data of another length
@@ -36,7 +25,7 @@ pub fn read_reply(identifier: u8, code: u8, data: &[u8], reply: &[u8]) -> Readin
     let acceptance = accept(code, data);
     match acceptance {
         Acceptance::Accepted(command) => read_as(identifier, code, command, reply),
-        Acceptance::Refused(_) => Reading::refused(Refusal::BadRequest),
+        Acceptance::Refused(_) => refused(Refusal::BadRequest),
     }
 }
 
@@ -45,22 +34,22 @@ fn read_as(identifier: u8, code: u8, command: Command, reply: &[u8]) -> Reading
     ensures { λ r. ⌜ telling (dataOf (now (reply .entry))) r ≡ readAs identifier code (now (reply .entry)) command ⌝ }
 {
     if reply.len() == 0 {
-        return Reading::refused(Refusal::WrongId);
+        return refused(Refusal::WrongId);
     }
     if reply[0] != identifier {
-        return Reading::refused(Refusal::WrongId);
+        return refused(Refusal::WrongId);
     }
     if reply.len() == 1 {
-        return Reading::refused(Refusal::WrongCommand);
+        return refused(Refusal::WrongCommand);
     }
     if reply[1] == SIGN {
         return read_sign(command, &reply[2..]);
     }
     if reply[1] != code {
-        return Reading::refused(Refusal::WrongCommand);
+        return refused(Refusal::WrongCommand);
     }
     if code == 0x01 {
-        return Reading::refused(Refusal::WrongCommand);
+        return refused(Refusal::WrongCommand);
     }
     read_data(command, &reply[2..])
 }
@@ -80,19 +69,19 @@ fn read_sign(command: Command, data: &[u8]) -> Reading
     ensures { λ r. ⌜ telling (now («data» .entry)) r ≡ signRead command (now («data» .entry)) ⌝ }
 {
     if data.len() != 1 {
-        return Reading::refused(Refusal::WrongLength);
+        return refused(Refusal::WrongLength);
     }
     let reason = data[0];
     if reason == ACK {
         if is_write(command) {
-            return Reading::of(Meaning::Ack);
+            return meant(Meaning::Ack);
         }
-        return Reading::refused(Refusal::WrongReason);
+        return refused(Refusal::WrongReason);
     }
     if is_nack(reason) {
-        Reading::of(Meaning::Nack(reason))
+        meant(Meaning::Nack(reason))
     } else {
-        Reading::refused(Refusal::WrongReason)
+        refused(Refusal::WrongReason)
     }
 }
 
@@ -123,9 +112,9 @@ fn read_data(command: Command, data: &[u8]) -> Reading
     ensures { λ r. ⌜ telling (now («data» .entry)) r ≡ dataRead command (now («data» .entry)) ⌝ }
 {
     if is_due(command, data.len()) {
-        Reading::of(Meaning::Data)
+        meant(Meaning::Data)
     } else {
-        Reading::refused(Refusal::WrongLength)
+        refused(Refusal::WrongLength)
     }
 }
 
@@ -141,22 +130,21 @@ fn is_due(command: Command, length: usize) -> bool
     }
 }
 
-impl Reading {
-    fn of(meaning: Meaning) -> Reading
-        ensures { λ r. ⌜ r ≡ readingOf Refusal.None meaning ⌝ }
-    {
-        Reading {
-            refusal: Refusal::None,
-            meaning,
-        }
+// A reply that says this.
+fn meant(meaning: Meaning) -> Reading
+    ensures { λ r. ⌜ r ≡ readingOf Refusal.None meaning ⌝ }
+{
+    Reading {
+        refusal: Refusal::None,
+        meaning,
     }
+}
 
-    fn refused(refusal: Refusal) -> Reading
-        ensures { λ r. ⌜ r ≡ readingOf refusal Meaning.None ⌝ }
-    {
-        Reading {
-            refusal,
-            meaning: Meaning::None,
-        }
+fn refused(refusal: Refusal) -> Reading
+    ensures { λ r. ⌜ r ≡ readingOf refusal Meaning.None ⌝ }
+{
+    Reading {
+        refusal,
+        meaning: Meaning::None,
     }
 }

@@ -3,4 +3,6 @@ pub mod Parameters
 pub mod Acceptance
 pub mod Header
 pub mod Requesting
+pub mod Reading
+pub mod Unique
 pub mod Examples

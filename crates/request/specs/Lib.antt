@@ -1,6 +1,6 @@
--- What a reader of this library must believe: which requests there are, what replies say, and what each call does.
--- Read Limits, Parameters, Cards, Acceptance, Header and Replies beside document 01, 'The point reader'; Requesting beside 'Refusal numbers';
--- Examples beside 'Bench examples'.
+-- What a reader of this library must believe: which requests there are, what replies say, and what the master reads in them.
+-- Read Limits, Parameters, Cards, Acceptance, Header and Replies beside document 01, 'The point reader'; Requesting, what the writer of requests
+-- answers, beside 'Refusal numbers'; Reading beside 'Master's side' and 'Refusal numbers'; Examples beside those and 'Bench examples'.
 -- The contents of frames are those of `station`, images those of `wire`.
 pub mod Limits
 pub mod Parameters
@@ -9,4 +9,5 @@ pub mod Acceptance
 pub mod Header
 pub mod Replies
 pub mod Requesting
+pub mod Reading
 pub mod Examples

@@ -1,56 +1,17 @@
-// The device header.
-use ground::laying::put;
-ghost use mathlib.Core.Path.{_≡_};
-ghost use Prim.Native.Nat.{_+_, _≤_};
-ghost use lib.ListN.{length};
-ghost use Rattle.ground.specs.Laying.{laid};
-ghost use Rattle.request.specs.Header.{lowFirst, header as headerOf};
-
+// The device header: how long it is, and where its numbers stand.
 pub const NAME_LENGTH: usize = 20;
 
 const NUMBER_LENGTH: usize = 4;
 
 // Where each number stands: one behind the other, behind the name.
-const KIND_AT: usize = NAME_LENGTH;
+pub const KIND_AT: usize = NAME_LENGTH;
 
-const VERSION_AT: usize = KIND_AT + NUMBER_LENGTH;
+pub const VERSION_AT: usize = KIND_AT + NUMBER_LENGTH;
 
-const PROTOCOL_AT: usize = VERSION_AT + NUMBER_LENGTH;
+pub const PROTOCOL_AT: usize = VERSION_AT + NUMBER_LENGTH;
 
-const SERIAL_AT: usize = PROTOCOL_AT + NUMBER_LENGTH;
+pub const SERIAL_AT: usize = PROTOCOL_AT + NUMBER_LENGTH;
 
-const FLAGS_AT: usize = SERIAL_AT + NUMBER_LENGTH;
+pub const FLAGS_AT: usize = SERIAL_AT + NUMBER_LENGTH;
 
 pub const HEADER_LENGTH: usize = FLAGS_AT + NUMBER_LENGTH;
-
-// The header of a device: its name, then its kind, version, protocol version, serial number and flags, each low byte first.
-pub fn header(
-    name: [u8; NAME_LENGTH],
-    kind: u32,
-    version: u32,
-    protocol: u32,
-    serial: u32,
-    flags: u32,
-) -> [u8; HEADER_LENGTH]
-    ensures { λ r. ⌜ r ≡ headerOf name kind version protocol serial flags ⌝ }
-{
-    let mut bytes = [0u8; HEADER_LENGTH];
-    put(&name, &mut bytes, 0);
-    lay_number(&mut bytes, KIND_AT, kind);
-    lay_number(&mut bytes, VERSION_AT, version);
-    lay_number(&mut bytes, PROTOCOL_AT, protocol);
-    lay_number(&mut bytes, SERIAL_AT, serial);
-    lay_number(&mut bytes, FLAGS_AT, flags);
-    bytes
-}
-
-// Lays a number's four bytes into `bytes` from the place `at` on.
-fn lay_number(bytes: &mut [u8], at: usize, number: u32)
-    requires { ⌜ at + 4 ≤ length (now bytes) ⌝ }
-    ensures { λ _. ⌜ now (bytes .exit) ≡ laid (now (bytes .entry)) at (lowFirst number) ⌝ }
-{
-    bytes[at] = (number % 256) as u8;
-    bytes[at + 1] = (number / 256 % 256) as u8;
-    bytes[at + 2] = (number / 65536 % 256) as u8;
-    bytes[at + 3] = (number / 16777216 % 256) as u8;
-}

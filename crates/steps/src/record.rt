@@ -1,5 +1,6 @@
 // A reader's record as it is delivered, and after power-on.
 use crate::memory::is_too_far;
+use commands::parameter::is_speed;
 use ground::refusal::Refusal;
 use reader::memory::Memory;
 use reader::parameters::Parameters;
@@ -7,7 +8,6 @@ use reader::reader::Powered;
 use reader::reader::Reader;
 use request::parameter::CELL_LENGTH;
 use request::parameter::SETTINGS_LENGTH;
-use request::parameter::is_speed;
 ghost use mathlib.Core.Path.{_≡_};
 ghost use Rattle.reader.specs.Parameters.{fresh as freshParameters};
 ghost use Rattle.reader.specs.Answering.{fresh as freshOf, badState, powering, poweredOn};

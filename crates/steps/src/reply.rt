@@ -1,7 +1,7 @@
 // The replies, and their frames.
+use commands::card::is_code;
 use link::writer::write_point;
 use reader::parameters::Parameters;
-use request::card::is_code;
 use request::command::Command;
 use request::header::HEADER_LENGTH;
 use request::parameter::Parameter;

@@ -18,7 +18,9 @@ use Rattle.request.specs.declared.command.Acceptance.the-variants.{Accepted}
 use Rattle.request.specs.Limits.{mostAntenna, headerLength}
 use Rattle.request.specs.Acceptance.{acceptance}
 use Rattle.request.specs.Replies.{Reply, NACK, sign, commandIn, dataIn, frontOf}
+use Rattle.request.specs.Reading.{accepting, replyRead}
 use Rattle.request.proofs.Laws.Acceptance.{accepts}
+use Rattle.request.proofs.Laws.Reading.{reads-nack}
 use Rattle.reader.specs.declared.reader.Reader.{Reader}
 use Rattle.reader.specs.declared.reader.Answer.{Answer}
 use Rattle.reader.specs.Replies.{replyImage, replyTo}
@@ -27,8 +29,6 @@ use Rattle.reader.specs.Sending.{sent}
 use Rattle.reader.specs.Sessions.{History, repeats, Kept, Session}
 use Rattle.reader.proofs.Laws.Executing.{reply-fits}
 use Rattle.reader.proofs.Laws.Sessions.{session-agrees, session-replies}
-use Rattle.master.specs.Reading.{accepting, replyRead}
-use Rattle.master.proofs.Laws.Reading.{reads-nack}
 use Rattle.exchange.specs.Exchanging.{Delivered, Exchanged}
 use Rattle.exchange.proofs.Laws.Mastering.{master-reads}
 

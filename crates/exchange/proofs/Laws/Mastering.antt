@@ -19,11 +19,11 @@ use Rattle.request.specs.Parameters.{lengthOf}
 use Rattle.request.specs.Acceptance as table
 use Rattle.request.specs.Acceptance.{acceptance, Accepts}
 use Rattle.request.specs.Replies.{Reply, sign, noCard, frontOf}
+use Rattle.request.specs.Reading.{accepting, replyRead}
 use Rattle.request.proofs.Laws.Acceptance.{accepted}
+use Rattle.request.proofs.Laws.Reading.{reads-nack, reads-ack, reads-due}
 use Rattle.reader.specs.Replies.{replyTo}
 use Rattle.reader.proofs.Laws.Replies.{replies-header, replies-ack, replies-value, replies-card}
-use Rattle.master.specs.Reading.{accepting, replyRead}
-use Rattle.master.proofs.Laws.Reading.{reads-nack, reads-ack, reads-due}
 
 -- the reply to each request that is executed
 module _ (value : Parameter → List ℕ) (sized : (p : Parameter) → length (value p) ≡ lengthOf p) (identifier : ℕ) (header antenna : List ℕ)

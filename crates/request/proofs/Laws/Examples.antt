@@ -7,8 +7,13 @@ use Rattle.request.specs.Cards.{highFirst}
 use Rattle.request.specs.Acceptance.{acceptance}
 use Rattle.request.specs.Header.{header}
 use Rattle.request.specs.Requesting.{requestWritten}
+use Rattle.request.specs.Reading.{dataRead, reasonRead, signRead, readAs, replyRead}
 use Rattle.request.specs.Examples.{Holds, examples}
 
 pub each-holds : Each Holds examples
-unfolding parameterWith takes highFirst acceptance requestWritten header
-each-holds = refl and refl and refl and refl and refl and refl and refl and refl and refl and refl and refl and refl and refl and none
+unfolding parameterWith takes highFirst acceptance header requestWritten dataRead reasonRead signRead readAs replyRead
+each-holds =
+    refl and refl and refl and refl and refl and refl and refl and refl and refl and refl and refl and refl and refl
+    and refl and refl and refl and refl and refl and refl and refl and refl and refl and refl and refl and refl
+    and refl and refl and refl and refl and refl
+    and none

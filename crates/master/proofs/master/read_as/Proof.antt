@@ -2,7 +2,7 @@
 -- Assumes nothing.
 use borrow.Author.Needs.{needs}
 use Rattle.ground.proofs.Laws.Lists.{take-rest}
-use Rattle.master.proofs.Laws.Reading.{refuses-empty, refuses-identifier, refuses-absent, reads-sign, refuses-command, refuses-echo, reads-data}
+use Rattle.request.proofs.Laws.Reading.{refuses-empty, refuses-identifier, refuses-absent, reads-sign, refuses-command, refuses-echo, reads-data}
 use Rattle.master.proofs.master.read_as.Statement.{statement}
 use Rattle.master.proofs.master.read_as.Tie as tie
 

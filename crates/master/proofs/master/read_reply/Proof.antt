@@ -1,8 +1,8 @@
 -- `master::read_reply` meets its contract.
 -- Assumes nothing.
 use borrow.Author.Needs.{needs}
+use Rattle.request.specs.Reading.{replyRead}
 use Rattle.request.proofs.Laws.Acceptance.{judged-as}
-use Rattle.master.specs.Reading.{replyRead}
 use Rattle.master.proofs.master.read_reply.Statement.{statement}
 use Rattle.master.proofs.master.read_reply.Tie as tie
 

@@ -3,7 +3,7 @@
 use mathlib.Core.Path.{sym, _∙_}
 use borrow.Author.Tests.{eq-eqb, ne-eqb}
 use borrow.Author.Needs.{needs}
-use Rattle.master.specs.Reading.{reasonRead, signRead}
+use Rattle.request.specs.Reading.{reasonRead, signRead}
 use Rattle.master.proofs.master.read_sign.Statement.{statement}
 use Rattle.master.proofs.master.read_sign.Tie as tie
 
@@ -20,14 +20,14 @@ shared-slice-read-reason c = search needs
 is-write-requires : tie.Need-is-write-requires
 is-write-requires c κs = search needs
 
-of-requires : tie.Need-of-requires
-of-requires c κs = search needs
+meant-requires : tie.Need-meant-requires
+meant-requires c κs = search needs
 
 returns-2 : tie.Need-returns-2
 unfolding signRead reasonRead
 returns-2 c =
     simp (
-      c .of .ensures,
+      c .meant .ensures,
       eq-eqb _ _ (c .before .before .before .before .before .if1 .left),
       c .before .before .before .if2 .taken,
       sym
@@ -51,8 +51,8 @@ returns-3 c =
 is-nack-requires : tie.Need-is-nack-requires
 is-nack-requires c κs = search needs
 
-of-requires-2 : tie.Need-of-requires-2
-of-requires-2 c κs = search needs
+meant-requires-2 : tie.Need-meant-requires-2
+meant-requires-2 c κs = search needs
 
 refused-requires-3 : tie.Need-refused-requires-3
 refused-requires-3 c κs = search needs
@@ -61,7 +61,7 @@ returns-4 : tie.Need-returns-4
 unfolding signRead reasonRead
 returns-4 c =
     simp (
-      c .of2 .ensures,
+      c .meant2 .ensures,
       eq-eqb _ _ (c .before .before .before .before .before .if1 .left),
       ne-eqb _ _
           (c .before .before .before .if2 .left),
@@ -87,12 +87,12 @@ read-sign-spec =
     returns
     shared-slice-read-reason
     is-write-requires
-    of-requires
+    meant-requires
     returns-2
     refused-requires-2
     returns-3
     is-nack-requires
-    of-requires-2
+    meant-requires-2
     refused-requires-3
     returns-4
     returns-5)

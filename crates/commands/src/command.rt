@@ -1,0 +1,78 @@
+// Which data each command accepts.
+use crate::parameter::takes;
+use crate::parameter::with_code;
+use request::card::Card;
+use request::command::Acceptance;
+use request::command::Command;
+use request::command::Fault;
+use request::parameter::Coded;
+ghost use mathlib.Core.Path.{_≡_};
+ghost use Rattle.request.specs.Acceptance.{bare as bareOf, writing as writingOf, reading as readingOf, acceptance, nackOf, judgement};
+
+// What this code asks for with this data.
+pub fn accept(code: u8, data: &[u8]) -> Acceptance
+    ensures { λ r. ⌜ judgement r ≡ judgement (acceptance code (now («data» .entry))) ⌝ }
+{
+    match code {
+        0x00 => bare(Command::Header, data),
+        0x01 => writing(data),
+        0x02 => reading(data),
+        0x10 => bare(Command::Card(Card::Marin), data),
+        0x14 => bare(Command::Card(Card::Hid), data),
+        0x18 => bare(Command::Card(Card::Motorola), data),
+        _ => Acceptance::Refused(Fault::UnknownCode),
+    }
+}
+
+// The number of the NACK that answers a fault.
+pub fn nack_of(fault: Fault) -> u8
+    ensures { λ r. ⌜ r ≡ nackOf fault ⌝ }
+{
+    match fault {
+        Fault::UnknownCode => 2,
+        Fault::BadData => 3,
+    }
+}
+
+// A command without data.
+fn bare(command: Command, data: &[u8]) -> Acceptance
+    ensures { λ r. ⌜ r ≡ bareOf command (now («data» .entry)) ⌝ }
+{
+    if data.len() == 0 {
+        Acceptance::Accepted(command)
+    } else {
+        Acceptance::Refused(Fault::BadData)
+    }
+}
+
+// A parameter's code, then its value.
+fn writing(data: &[u8]) -> Acceptance
+    ensures { λ r. ⌜ r ≡ writingOf (now («data» .entry)) ⌝ }
+{
+    if data.len() == 0 {
+        return Acceptance::Refused(Fault::BadData);
+    }
+    let coded = with_code(data[0]);
+    let Coded::Known(parameter) = coded else {
+        return Acceptance::Refused(Fault::BadData);
+    };
+    if takes(parameter, &data[1..]) {
+        Acceptance::Accepted(Command::Write(parameter))
+    } else {
+        Acceptance::Refused(Fault::BadData)
+    }
+}
+
+// A parameter's code alone.
+fn reading(data: &[u8]) -> Acceptance
+    ensures { λ r. ⌜ r ≡ readingOf (now («data» .entry)) ⌝ }
+{
+    if data.len() != 1 {
+        return Acceptance::Refused(Fault::BadData);
+    }
+    let coded = with_code(data[0]);
+    match coded {
+        Coded::Known(parameter) => Acceptance::Accepted(Command::Read(parameter)),
+        Coded::Unknown => Acceptance::Refused(Fault::BadData),
+    }
+}

@@ -1,4 +1,0 @@
--- The laws, each file with the noun that it speaks of.
-pub mod Reading
-pub mod Unique
-pub mod Examples
