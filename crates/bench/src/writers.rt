@@ -6,9 +6,9 @@ use crate::buffer::front_mut;
 use crate::buffer::length;
 use crate::line::Text;
 use ground::refusal::Counted;
+use images::image::image_length;
 use link::writer::write_addressed;
 use link::writer::write_point;
-use wire::image::image_length;
 
 // Payload: room, identifier, command, data.
 pub(crate) fn put_point_frame(payload: &[u8], text: Text) -> Text {

@@ -6,7 +6,7 @@ use checks::sum::sum;
 use ground::laying::put;
 use ground::refusal::Counted;
 use ground::refusal::Refusal;
-use wire::image::write_image;
+use images::image::write_image;
 use wire::limits::MOST_CONTENT;
 ghost use mathlib.Core.Path.{_≡_};
 ghost use Prim.Native.Nat.{_+_, _≤_};

@@ -5,10 +5,10 @@ use native.Mathlib.Omega.{arith}
 use lib.ListN.{length}
 use borrow.Author.Tests.{lt-ltb, le-ltb}
 use borrow.Author.Needs.{needs}
 use Rattle.wire.specs.Limits.{mostContent}
 use Rattle.wire.specs.Writing.{lengthAsked}
-use Rattle.wire.proofs.image.image_length.Statement.{statement}
-use Rattle.wire.proofs.image.image_length.Tie as tie
+use Rattle.images.proofs.image.image_length.Statement.{statement}
+use Rattle.images.proofs.image.image_length.Tie as tie
 
 refused-requires : tie.Need-refused-requires
 refused-requires c κs = search needs

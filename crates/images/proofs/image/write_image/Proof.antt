@@ -3,9 +3,9 @@
 use mathlib.Core.Path.{sym, _∙_}
 use native.Mathlib.Omega.{arith}
 use borrow.Author.Needs.{needs}
 use Rattle.wire.proofs.Laws.Writing.{asked-within, asked-over}
-use Rattle.wire.proofs.image.write_image.Statement.{statement}
-use Rattle.wire.proofs.image.write_image.Tie as tie
+use Rattle.images.proofs.image.write_image.Statement.{statement}
+use Rattle.images.proofs.image.write_image.Tie as tie
 
 lay-image-requires : tie.Need-lay-image-requires
 lay-image-requires c κs = search needs

@@ -6,10 +6,10 @@ use Prim.Native.Nat.{_+_, _-_, _≤_}
 use native.Mathlib.Omega.{arith}
 use lib.ListN.{length, drop, getD, drop-of-length-le}
 use Rattle.ground.proofs.Laws.Lists.{drop-next}
 use Rattle.wire.specs.Stuffing.{specials}
 use Rattle.wire.proofs.Laws.Stuffing.{specials-plain, specials-special}
-use Rattle.wire.proofs.stuffing.specials.Statement.{statement}
-use Rattle.wire.proofs.stuffing.specials.Tie as tie
+use Rattle.images.proofs.stuffing.specials.Statement.{statement}
+use Rattle.images.proofs.stuffing.specials.Tie as tie
 
 abbrev Inv-loop : tie.InvT-loop
 Inv-loop content count₀ i₀ count i = (i ≤ length content) × (count ≤ i) × (count + specials (drop i content) ≡ specials content)

@@ -10,13 +10,13 @@ use borrow.Author.Needs.{needs}
 use Rattle.ground.specs.Refusals.{counted}
 use Rattle.ground.specs.Laying.{laid}
 use Rattle.ground.proofs.Laws.Laying.{laid-part, length-laid}
 use Rattle.wire.specs.Stuffing.{stuffing}
 use Rattle.wire.specs.Image.{start, stop, image}
 use Rattle.wire.specs.Writing.{leaving}
 use Rattle.wire.proofs.Laws.Image.{length-image, imageLength-stuffing}
 use Rattle.wire.proofs.Laws.Writing.{image-laid, written-short, written-whole}
-use Rattle.wire.proofs.image.lay_image.Statement.{statement}
-use Rattle.wire.proofs.image.lay_image.Tie as tie
+use Rattle.images.proofs.image.lay_image.Statement.{statement}
+use Rattle.images.proofs.image.lay_image.Tie as tie
 
 -- there is room for start, stuffing and stop
 room : (c : tie.Else1) → let a = c .before .before .before .before .args in 2 + length (stuffing (a .content .now)) ≤ length (a .out .now)

@@ -2,10 +2,10 @@
 -- Assumes nothing.
 use native.Mathlib.Omega.{arith}
 use borrow.Author.Needs.{needs}
 use Rattle.wire.specs.Image.{imageLength}
 use Rattle.wire.proofs.Laws.Stuffing.{specials-most}
-use Rattle.wire.proofs.image.wire_length.Statement.{statement}
-use Rattle.wire.proofs.image.wire_length.Tie as tie
+use Rattle.images.proofs.image.wire_length.Statement.{statement}
+use Rattle.images.proofs.image.wire_length.Tie as tie
 
 add-result : tie.Need-add-result
 add-result c = search needs

@@ -7,10 +7,10 @@ use native.Mathlib.Omega.{arith}
 use borrow.Author.Needs.{needs}
 use lib.ListN.{length, length-set}
 use Rattle.ground.proofs.Laws.Laying.{set-laid, set-two}
 use Rattle.wire.specs.Stuffing.{stuffed}
 use Rattle.wire.proofs.Laws.Stuffing.{stuffed-plain, stuffed-special}
-use Rattle.wire.proofs.stuffing.stuff_byte.Statement.{statement}
-use Rattle.wire.proofs.stuffing.stuff_byte.Tie as tie
+use Rattle.images.proofs.stuffing.stuff_byte.Statement.{statement}
+use Rattle.images.proofs.stuffing.stuff_byte.Tie as tie
 
 plain : (c : tie.Then1) → stuffed (c .before .args .byte) ≡ c .before .args .byte ∷ []
 plain c = stuffed-plain (c .before .args .byte) (c .if1 .taken)

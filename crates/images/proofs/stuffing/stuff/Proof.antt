@@ -8,9 +8,9 @@ use lib.ListN.{length, drop, getD, length-append, drop-of-length-le}
 use Rattle.ground.specs.Laying.{laid}
 use Rattle.ground.proofs.Laws.Lists.{drop-next}
 use Rattle.ground.proofs.Laws.Laying.{laid-nil, laid-more}
 use Rattle.wire.specs.Stuffing.{stuffed, stuffing}
-use Rattle.wire.proofs.stuffing.stuff.Statement.{statement}
-use Rattle.wire.proofs.stuffing.stuff.Tie as tie
+use Rattle.images.proofs.stuffing.stuff.Statement.{statement}
+use Rattle.images.proofs.stuffing.stuff.Tie as tie
 
 -- the stuffing of what is left begins with the next byte, stuffed
 next : (s : List ℕ) (i : ℕ) → i < length s → stuffing (drop i s) ≡ stuffed (getD s i 0) ++ stuffing (drop (i + 1) s)

@@ -1,0 +1,3 @@
+// The wire image of a content: stuffed, between start and stop, and its length.
+pub mod image;
+mod stuffing;
