@@ -19,13 +19,13 @@ use Rattle.wire.specs.Writing.{lengthAsked, After, refusing, putting, im
 use Rattle.wire.proofs.Laws.Image.{length-image, imageLength-stuffing}
 
 -- row 2 of the refusal table, of a length asked: when, and else it is the image's
-pub length-over : (content : List ℕ) → mostContent < length content → lengthAsked content ≡ refused TooLong
+pub length-refused : (content : List ℕ) → mostContent < length content → lengthAsked content ≡ refused TooLong
 unfolding lengthAsked
-length-over content over = rw (lt-ltb mostContent (length content) over)
+length-refused content over = rw (lt-ltb mostContent (length content) over)
 
-pub length-within : (content : List ℕ) → length content ≤ mostContent → lengthAsked content ≡ counted (imageLength content)
+pub length-answered : (content : List ℕ) → length content ≤ mostContent → lengthAsked content ≡ counted (imageLength content)
 unfolding lengthAsked
-length-within content within = rw (le-ltb mostContent (length content) within)
+length-answered content within = rw (le-ltb mostContent (length content) within)
 
 -- start, then the stuffing in the room behind it, then stop: the image stands in front
 pub image-laid : (content out : List ℕ) → length (image content) ≤ length out
