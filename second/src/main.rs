@@ -56,7 +56,7 @@ fn main() -> ExitCode {
 fn output(words: &[&str]) -> Result<Vec<u8>, Failure> {
     match words {
         ["listing"] => Ok(tape::listing(&input()?).into_bytes()),
-        ["bench"] => Ok(bench::lines(&input()?).into_bytes()),
+        ["bench"] => Ok(bench::rows(&input()?).into_bytes()),
         ["make", "tape", seed] => Ok(make::tape(number(seed)?)),
         ["make", "script", seed] => Ok(make::script(number(seed)?)),
         ["make", "day", seed, records] => {

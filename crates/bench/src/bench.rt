@@ -2,12 +2,12 @@
 use crate::buffer::MOST_LENGTH;
 use crate::buffer::UNTOUCHED;
 use crate::line::Text;
-use link::receiver::fresh_addressed;
-use link::receiver::fresh_point;
-use reader::reader::Reader;
-use station::line::MASTER;
-use station::receiver::Receiver;
-use steps::record::fresh_reader;
+use link::MASTER;
+use link::Receiver;
+use link::fresh_addressed;
+use link::fresh_point;
+use reader::Reader;
+use reader::fresh_reader;
 
 // A receiver of each line, and a point reader with its two buffers.
 pub(crate) struct Bench {

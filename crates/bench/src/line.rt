@@ -1,11 +1,11 @@
 // The line that a record writes.
 use crate::buffer::front;
-use ground::laying::put;
-use ground::refusal::Refusal;
-use ground::refusal::number;
+use ground::Refusal;
+use ground::number;
+use ground::put;
 use libc::STDOUT_FILENO;
-use text::decimal::put_decimal;
-use text::hex::put_pairs;
+use text::put_decimal;
+use text::put_pairs;
 
 // Room for the longest line: both buffers of the reader, with three letters for each of 255 bytes.
 const MOST_LINE: usize = 2048;

@@ -6,10 +6,10 @@ use crate::buffer::front_mut;
 use crate::buffer::length;
 use crate::line::Text;
 use crate::writers::put_written;
-use commands::writer::write_request;
-use master::master::data_of;
-use master::master::read_reply;
-use request::reading::Meaning;
+use master::data_of;
+use master::read_reply;
+use request::Meaning;
+use request::write_request;
 
 // Payload: room, identifier, code, data.
 pub(crate) fn put_request(payload: &[u8], text: Text) -> Text {

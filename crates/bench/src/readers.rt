@@ -5,15 +5,15 @@ use crate::buffer::front;
 use crate::buffer::front_mut;
 use crate::buffer::length;
 use crate::line::Text;
-use commands::header::header;
-use reader::buffer::Buffer;
-use reader::memory::Memory;
-use reader::parameters::Parameters;
-use reader::reader::Answer;
-use reader::reader::Reader;
-use request::header::HEADER_LENGTH;
-use station::event::Event;
-use steps::buffer::to_send;
+use link::Event;
+use reader::Answer;
+use reader::Buffer;
+use reader::Memory;
+use reader::Parameters;
+use reader::Reader;
+use reader::to_send;
+use request::HEADER_LENGTH;
+use request::header;
 ghost use Prim.Native.Nat.{_≤_};
 ghost use lib.ListN.{length as lengthOf};
 
@@ -56,7 +56,7 @@ fn answer_event(
     let lent_store = front_mut(&mut store, rooms.store);
     let lent_out = front_mut(&mut out, rooms.out);
     let header = device_header();
-    let answer = steps::answer::answer(
+    let answer = reader::answer(
         reader,
         event,
         content,
@@ -137,7 +137,7 @@ fn put_reader(reader: Reader, text: Text) -> Text {
 
 pub(crate) fn power_on(mut bench: Bench, text: Text) -> Done {
     let reader = bench.reader;
-    let powered = steps::record::power_on(reader);
+    let powered = reader::power_on(reader);
     let refusal = powered.refusal;
     let reader = powered.reader;
     bench.reader = reader;

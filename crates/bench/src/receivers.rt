@@ -4,15 +4,15 @@ use crate::bench::Done;
 use crate::buffer::front;
 use crate::buffer::length;
 use crate::line::Text;
-use ground::refusal::number;
-use link::receiver::fresh_addressed;
-use link::receiver::receive;
-use station::event::Event;
-use station::line::Line;
-use station::phase::Phase;
-use station::receiver::Heard;
-use station::receiver::Receiver;
-use wire::limits::MOST_CONTENT;
+use ground::number;
+use link::Event;
+use link::Heard;
+use link::Line;
+use link::Phase;
+use link::Receiver;
+use link::fresh_addressed;
+use link::receive;
+use wire::MOST_CONTENT;
 
 pub(crate) fn hear_point(mut bench: Bench, piece: &[u8], text: Text) -> Done {
     let receiver = bench.point;

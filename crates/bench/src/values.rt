@@ -1,8 +1,8 @@
 // The check values.
 use crate::line::Text;
-use checks::fcs::fcs;
-use checks::fcs::residue;
-use checks::sum::sum;
+use checks::fcs;
+use checks::residue;
+use checks::sum;
 
 // The FCS of the bytes, and the register not inverted.
 pub(crate) fn put_fcs(bytes: &[u8], text: Text) -> Text {

@@ -5,10 +5,10 @@ use crate::buffer::front;
 use crate::buffer::front_mut;
 use crate::buffer::length;
 use crate::line::Text;
-use ground::refusal::Counted;
-use images::image::image_length;
-use link::writer::write_addressed;
-use link::writer::write_point;
+use ground::Counted;
+use link::write_addressed;
+use link::write_point;
+use wire::image_length;
 
 // Payload: room, identifier, command, data.
 pub(crate) fn put_point_frame(payload: &[u8], text: Text) -> Text {

@@ -1,6 +1,6 @@
 // Which check stands at the end of a content, and whether it is right.
-use crate::fcs::fcs;
-use crate::sum::sum;
+use crate::register::fcs;
+use crate::total::sum;
 ghost use mathlib.Core.Path.{_≡_};
 ghost use Prim.Native.Nat.{_+_};
 ghost use lib.ListN.{length};

@@ -1,12 +1,12 @@
 // Writes the request for a reader's device header, as it goes over the point line, and prints its bytes; then hands them to a receiver
 // and prints the content of the frame that it hears.
-use ground::laying::put;
+use ground::put;
 use libc::STDOUT_FILENO;
-use link::receiver::fresh_point;
-use link::receiver::receive;
-use link::writer::write_point;
-use station::event::Event;
-use text::hex::put_pairs;
+use link::Event;
+use link::fresh_point;
+use link::receive;
+use link::write_point;
+use text::put_pairs;
 
 // Prints up to 8 bytes as hex pairs, on a line of their own.
 fn print(bytes: &[u8]) {

@@ -1,3 +1,10 @@
 // What every crate above stands on: refusals by their numbers, counts, and bytes put into a lent buffer.
-pub mod laying;
-pub mod refusal;
+mod laying;
+mod refusal;
+
+pub use laying::Placed;
+pub use laying::put;
+pub use laying::room;
+pub use refusal::Counted;
+pub use refusal::Refusal;
+pub use refusal::number;

@@ -1,4 +1,23 @@
 // The frames of the two serial lines of ProX card readers: their writers, and the receiver of both.
-pub mod limits;
-pub mod receiver;
-pub mod writer;
+mod receiver;
+mod rules;
+mod station;
+mod writer;
+
+pub use link_spec::BROADCAST;
+pub use link_spec::Event;
+pub use link_spec::Fresh;
+pub use link_spec::Heard;
+pub use link_spec::LAST_ADDRESS;
+pub use link_spec::LEAST_CONTENT;
+pub use link_spec::Line;
+pub use link_spec::MASTER;
+pub use link_spec::MOST_DATA;
+pub use link_spec::Phase;
+pub use link_spec::Receiver;
+pub use receiver::fresh_addressed;
+pub use receiver::fresh_point;
+pub use receiver::is_bad_state;
+pub use receiver::receive;
+pub use writer::write_addressed;
+pub use writer::write_point;

@@ -1,24 +1,24 @@
 // The receiver of either line: fresh ones, and the call that takes a piece of a stream.
-use ground::refusal::Refusal;
-use rules::event::at_stop;
-use rules::line::check_on;
-use rules::line::has_station;
-use rules::line::is_station;
-use rules::turn::at_byte;
-use station::event::Event;
-use station::event::SILENT;
-use station::event::Verdict;
-use station::line::Line;
-use station::phase::Phase;
-use station::receiver::Fresh;
-use station::receiver::Heard;
-use station::receiver::Receiver;
-use station::turn::Turn;
-use wire::limits::MOST_CONTENT;
+use crate::rules::at_byte;
+use crate::rules::at_stop;
+use crate::station::check_on;
+use crate::station::has_station;
+use crate::station::is_station;
+use ground::Refusal;
+use link_spec::Event;
+use link_spec::Fresh;
+use link_spec::Heard;
+use link_spec::Line;
+use link_spec::Phase;
+use link_spec::Receiver;
+use link_spec::SILENT;
+use link_spec::Turn;
+use link_spec::Verdict;
+use wire::MOST_CONTENT;
 ghost use mathlib.Core.Path.{_≡_};
 ghost use Prim.Native.Nat.{_≤_};
-ghost use Rattle.wire.specs.Limits.{mostContent};
-ghost use Rattle.station.specs.Receiving.{fresh as freshOf, outside as outsideOf, made, freshMade, saying, answering, heard, refusedState, received};
+ghost use Rattle.wire_spec.specs.Limits.{mostContent};
+ghost use Rattle.link_spec.specs.Receiving.{fresh as freshOf, outside as outsideOf, made, freshMade, saying, answering, heard, badState, refusedState, received};
 
 // The first event inside a piece, and how many bytes were taken, up to and with its byte.
 struct Found {
@@ -69,14 +69,22 @@ fn outside(line: Line, content: [u8; MOST_CONTENT]) -> Receiver
 pub fn receive(receiver: Receiver, piece: &[u8]) -> Heard
     ensures { λ r. ⌜ saying r ≡ received receiver (now (piece .entry)) ⌝ }
 {
-    let line = receiver.line;
-    if receiver.count > MOST_CONTENT {
+    if is_bad_state(receiver) {
         return refused(receiver);
     }
+    hear(receiver, piece)
+}
+
+// Whether a call on this receiver is refused: its count is over 64, or no station may have its address.
+pub fn is_bad_state(receiver: Receiver) -> bool
+    ensures { λ r. ⌜ r ≡ badState receiver ⌝ }
+{
+    let line = receiver.line;
     if has_station(line) {
-        return hear(receiver, piece);
+        receiver.count > MOST_CONTENT
+    } else {
+        true
     }
-    refused(receiver)
 }
 
 // The same, of a receiver that no row of the refusal table names.

@@ -1,13 +1,13 @@
 // The frame writers of both lines.
-use crate::limits::MOST_DATA;
-use checks::kind::Check;
-use frames::frame::write_frame;
-use ground::refusal::Counted;
-use ground::refusal::Refusal;
-use station::line::LAST_ADDRESS;
+use checks::Check;
+use ground::Counted;
+use ground::Refusal;
+use link_spec::LAST_ADDRESS;
+use link_spec::MOST_DATA;
+use wire::write_frame;
 ghost use mathlib.Core.Path.{_≡_};
-ghost use Rattle.wire.specs.Writing.{after};
-ghost use Rattle.station.specs.Writers.{pointWritten, addressedWritten};
+ghost use Rattle.wire_spec.specs.Writing.{after};
+ghost use Rattle.link_spec.specs.Writers.{pointWritten, addressedWritten};
 
 // Writes the image of a point frame to the front of `out`, and answers its length. Refuses data over 60 bytes (TooLong) and `out`
 // shorter than the image (NoRoom), in this order; a refusal leaves `out` as it was.
@@ -28,11 +28,12 @@ pub fn write_addressed(
 ) -> Counted
     ensures { λ r. ⌜ after r (now (out .exit)) ≡ addressedWritten address identifier command (now («data» .entry)) (now (out .entry)) ⌝ }
 {
+    if address <= LAST_ADDRESS {
+        return write_frame(Check::Sum, &[address, identifier, command], data, out);
+    }
+    // a frame that is too long is refused as such, whatever its address
     if data.len() > MOST_DATA {
         return Counted::refused(Refusal::TooLong);
     }
-    if address > LAST_ADDRESS {
-        return Counted::refused(Refusal::BadAddress);
-    }
-    write_frame(Check::Sum, &[address, identifier, command], data, out)
+    Counted::refused(Refusal::BadAddress)
 }

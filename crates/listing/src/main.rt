@@ -1,15 +1,15 @@
 // Lists a tape: its bytes on standard input, the listing on standard output.
-use chunks::chunk::list;
 use libc::STDERR_FILENO;
 use libc::STDIN_FILENO;
 use libc::STDOUT_FILENO;
-use lines::ends::write_header;
-use tape::tape::Tape;
-use taping::ends::write_last;
-use taping::record::fresh_tape;
-use taping::record::is_over;
+use tape::Tape;
+use tape::fresh_tape;
+use tape::is_over;
+use tape::list;
+use tape::write_header;
+use tape::write_last;
 ghost use Prim.Native.Nat.{_≤_};
-ghost use Rattle.tape.specs.Limits.{mostRecords};
+ghost use Rattle.tape_spec.specs.Limits.{mostRecords};
 
 // Where the listing stands: more of the tape is read, nothing further of it is, or a write failed.
 enum Course {

@@ -1,2 +1,7 @@
 // The point line's master: its reading of the replies to typed requests.
-pub mod master;
+mod reading;
+
+pub use reading::data_of;
+pub use reading::read_reply;
+pub use request::Meaning;
+pub use request::Reading;

@@ -1,35 +1,12 @@
--- What a reader replies, and the frame that says it.
--- 01, The point reader, the table and the paragraph below it; 001, 'Кадры ответа ACK/NACK'. Assumes nothing.
-use Prim.Native.Nat.{ℕ}
+-- A reply written to a buffer, which is what the functions of `reply` promise each other.
+-- 01, The point reader, steps 2 and 4 to 6. Assumes nothing.
+use Prim.Native.Nat.{ℕ, _≤_}
 use mathlib.Core.Path.{_≡_}
-use mathlib.Core.Bool.{cond}
 use mathlib.Core.List.{List}
-use lib.ListN.{length}
-use Rattle.wire.specs.Image.{image}
-use Rattle.station.specs.Frame.{pointContent}
-use Rattle.request.specs.declared.parameter.Parameter.{Parameter}
-use Rattle.request.specs.declared.command.Command.{Command}
-use Rattle.request.specs.declared.command.Command.the-variants.{Header, Write, Read, Card}
-use Rattle.request.specs.Cards.{isCode}
-use Rattle.request.specs.Replies.{Reply, ACK, NACK, DATA, commandIn, dataIn, noCard}
+use Rattle.ground.specs.Refusals.{counted}
+use Rattle.wire_spec.specs.Writing.{leaving, putting}
+use Rattle.reader_spec.specs.Limits.{room}
 
--- a reply's content with its check, and its frame's whole image
-abbrev pub replyContent : ℕ → ℕ → Reply → List ℕ
-replyContent identifier code reply = pointContent identifier (commandIn code reply) (dataIn reply)
-
-abbrev pub replyImage : ℕ → ℕ → Reply → List ℕ
-replyImage identifier code reply = image (replyContent identifier code reply)
-
--- the third column of the table, where the parameters have these values: the header; ACK; the value; the antenna's bytes as they come,
--- or NACK 6 for no card and for a number of bytes that is not the card's
-unfoldable pub replyTo : (Parameter → List ℕ) → Command → List ℕ → List ℕ → Reply
-replyTo value Header header antenna = DATA header
-replyTo value (Write p) header antenna = ACK
-replyTo value (Read p) header antenna = DATA (value p)
-replyTo value (Card card) header antenna = cond (isCode card (length antenna)) (DATA antenna) (NACK noCard)
-
--- ACK, NACK 6 or data: never NACK 2 or 3
-abbrev pub IsAnswer : Reply → Type 0
-IsAnswer ACK = Unit {0}
-IsAnswer (NACK n) = n ≡ noCard
-IsAnswer (DATA bytes) = Unit {0}
+-- this content's image was put to the front of a buffer, and is no longer than a reader's buffers are at least
+abbrev pub Fills : ℕ → List ℕ → List ℕ → List ℕ → Type 0
+Fills count out′ content out = (leaving (counted count) out′ ≡ putting content out) × (count ≤ room)

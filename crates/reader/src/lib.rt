@@ -1,7 +1,22 @@
-// The point reader, as types alone: its record, and what it answers to requests and to one that is repeated. The functions are in `steps`.
-pub mod asking;
-pub mod buffer;
-pub mod limits;
-pub mod memory;
-pub mod parameters;
-pub mod reader;
+// The point reader: a fresh one, power-on, the call that does the steps with what was heard, and the part of a buffer to send.
+mod asking;
+mod buffer;
+mod memory;
+mod record;
+mod reply;
+mod steps;
+mod values;
+
+pub use buffer::to_send;
+pub use reader_spec::Answer;
+pub use reader_spec::Buffer;
+pub use reader_spec::LEAST_FRONT;
+pub use reader_spec::MOST_FRONT;
+pub use reader_spec::Memory;
+pub use reader_spec::Parameters;
+pub use reader_spec::Powered;
+pub use reader_spec::ROOM;
+pub use reader_spec::Reader;
+pub use record::fresh_reader;
+pub use record::power_on;
+pub use steps::answer;

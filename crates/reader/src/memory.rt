@@ -1,17 +1,42 @@
-// The memory of the last executed command.
+// Whether a frame repeats the last executed command.
+use reader_spec::Memory;
+use reader_spec::ROOM;
+use reader_spec::Repeat;
+ghost use mathlib.Core.Path.{_≡_};
+ghost use Rattle.reader_spec.specs.Memory.{find as findOf, tooFar};
 
-// The last command executed since power-on, if any: identifier, command, and the length of the reply that the store holds.
-pub enum Memory {
-    None,
-    Last {
-        identifier: u8,
-        command: u8,
-        length: usize,
-    },
+// What a frame with this identifier and command is.
+pub(crate) fn find(memory: Memory, identifier: u8, command: u8) -> Repeat
+    ensures { λ r. ⌜ r ≡ findOf memory identifier command ⌝ }
+{
+    match memory {
+        Memory::None => Repeat::New,
+        Memory::Last {
+            identifier: last,
+            command: executed,
+            length,
+        } => {
+            if last != identifier {
+                return Repeat::New;
+            }
+            if executed != command {
+                return Repeat::New;
+            }
+            Repeat::Stored(length)
+        }
+    }
 }
 
-// A frame that is new, or one that repeats the last executed command, whose stored reply is so long.
-pub enum Repeat {
-    New,
-    Stored(usize),
+// Whether the remembered length is over 130.
+pub(crate) fn is_too_far(memory: Memory) -> bool
+    ensures { λ r. ⌜ r ≡ tooFar memory ⌝ }
+{
+    match memory {
+        Memory::None => false,
+        Memory::Last {
+            identifier: _,
+            command: _,
+            length,
+        } => length > ROOM,
+    }
 }

@@ -1,6 +1,28 @@
-// The cards that an antenna reads.
-pub enum Card {
-    Marin,
-    Hid,
-    Motorola,
+// How many bytes a card's code may have.
+use request_spec::Card;
+use request_spec::MOST_ANTENNA;
+ghost use mathlib.Core.Path.{_≡_};
+ghost use Rattle.request_spec.specs.Cards.{isRead, isCode};
+
+const MOTOROLA_LENGTH: usize = 5;
+
+// Whether a card's code may have so many bytes.
+pub fn is_code(card: Card, length: usize) -> bool
+    ensures { λ r. ⌜ r ≡ isCode card length ⌝ }
+{
+    match card {
+        Card::Marin => is_read(length),
+        Card::Hid => is_read(length),
+        Card::Motorola => length == MOTOROLA_LENGTH,
+    }
+}
+
+// Whether an antenna that read a card answers so many bytes.
+fn is_read(length: usize) -> bool
+    ensures { λ r. ⌜ r ≡ isRead length ⌝ }
+{
+    if length < 1 {
+        return false;
+    }
+    length <= MOST_ANTENNA
 }

@@ -1,23 +1,78 @@
-// The commands, and what a code with its data is taken for.
-use crate::card::Card;
-use crate::parameter::Parameter;
+// Which data each command accepts.
+use crate::parameter::takes;
+use crate::parameter::with_code;
+use request_spec::Acceptance;
+use request_spec::Card;
+use request_spec::Coded;
+use request_spec::Command;
+use request_spec::Fault;
+ghost use mathlib.Core.Path.{_≡_};
+ghost use Rattle.request_spec.specs.Acceptance.{bare as bareOf, writing as writingOf, reading as readingOf, acceptance, nackOf, judgement};
 
-// What a request asks for: the device header (code 00), to write or read a parameter (01, 02), to read an EM-Marin, HID or Motorola
-// card (10, 14, 18).
-pub enum Command {
-    Header,
-    Write(Parameter),
-    Read(Parameter),
-    Card(Card),
+// What this code asks for with this data.
+pub fn accept(code: u8, data: &[u8]) -> Acceptance
+    ensures { λ r. ⌜ judgement r ≡ judgement (acceptance code (now («data» .entry))) ⌝ }
+{
+    match code {
+        0x00 => bare(Command::Header, data),
+        0x01 => writing(data),
+        0x02 => reading(data),
+        0x10 => bare(Command::Card(Card::Marin), data),
+        0x14 => bare(Command::Card(Card::Hid), data),
+        0x18 => bare(Command::Card(Card::Motorola), data),
+        _ => Acceptance::Refused(Fault::UnknownCode),
+    }
 }
 
-// Why a request is not executed: its code does not exist, or it does not accept the data.
-pub enum Fault {
-    UnknownCode,
-    BadData,
+// The number of the NACK that answers a fault.
+pub fn nack_of(fault: Fault) -> u8
+    ensures { λ r. ⌜ r ≡ nackOf fault ⌝ }
+{
+    match fault {
+        Fault::UnknownCode => 2,
+        Fault::BadData => 3,
+    }
 }
 
-pub enum Acceptance {
-    Accepted(Command),
-    Refused(Fault),
+// A command without data.
+fn bare(command: Command, data: &[u8]) -> Acceptance
+    ensures { λ r. ⌜ r ≡ bareOf command (now («data» .entry)) ⌝ }
+{
+    if data.len() == 0 {
+        Acceptance::Accepted(command)
+    } else {
+        Acceptance::Refused(Fault::BadData)
+    }
+}
+
+// A parameter's code, then its value.
+fn writing(data: &[u8]) -> Acceptance
+    ensures { λ r. ⌜ r ≡ writingOf (now («data» .entry)) ⌝ }
+{
+    if data.len() == 0 {
+        return Acceptance::Refused(Fault::BadData);
+    }
+    let coded = with_code(data[0]);
+    let Coded::Known(parameter) = coded else {
+        return Acceptance::Refused(Fault::BadData);
+    };
+    if takes(parameter, &data[1..]) {
+        Acceptance::Accepted(Command::Write(parameter))
+    } else {
+        Acceptance::Refused(Fault::BadData)
+    }
+}
+
+// A parameter's code alone.
+fn reading(data: &[u8]) -> Acceptance
+    ensures { λ r. ⌜ r ≡ readingOf (now («data» .entry)) ⌝ }
+{
+    if data.len() != 1 {
+        return Acceptance::Refused(Fault::BadData);
+    }
+    let coded = with_code(data[0]);
+    match coded {
+        Coded::Known(parameter) => Acceptance::Accepted(Command::Read(parameter)),
+        Coded::Unknown => Acceptance::Refused(Fault::BadData),
+    }
 }

@@ -1,9 +1,5 @@
 -- The laws, each file with the noun that it speaks of.
-pub mod Fine
-pub mod Taping
-pub mod Remaining
-pub mod Whole
-pub mod Frames
-pub mod Sessions
-pub mod Unique
-pub mod Examples
+pub mod Running
+pub mod Hearing
+pub mod Going
+pub mod Chunks

@@ -1,10 +1,3 @@
--- What a reader of this library must believe: what a tape's listing is, and what each call answers.
--- Read Limits and Whole beside document 01, 'The listing program': `listing` in Whole is the text of a whole tape, put together of the
--- crate lines' lines. Frames says which frames it has to show, as the rule that crew and desk signed. Taping says what the calls of
--- the crates taping and chunks answer, Sessions how a tape is handed over in chunks, and Examples holds the paper's tape.
-pub mod Limits
-pub mod Whole
-pub mod Frames
-pub mod Taping
-pub mod Sessions
-pub mod Examples
+-- What the functions inside this library promise each other. What its calls answer is said in `tape_spec`: `listed` in Taping, and Rows.
+pub mod Words
+pub mod Running

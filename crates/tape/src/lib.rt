@@ -1,6 +1,19 @@
-// A tape under way, as types alone: what its next byte is, the receivers of both lines, and what a call on a chunk answers. The functions are
-// in the crates `taping` and `chunks`.
-pub mod limits;
-pub mod next;
-pub mod receivers;
-pub mod tape;
+// A tape's bytes in, the listing's text out: header row, a row for each event chunk by chunk, last row.
+mod chunk;
+mod ends;
+mod kind;
+mod receivers;
+mod record;
+mod rows;
+mod run;
+mod word;
+
+pub use chunk::list;
+pub use ends::write_header;
+pub use ends::write_last;
+pub use record::fresh_tape;
+pub use record::is_over;
+pub use tape_spec::LEAST_ROOM;
+pub use tape_spec::Listed;
+pub use tape_spec::MOST_RECORDS;
+pub use tape_spec::Tape;

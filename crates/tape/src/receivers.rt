@@ -1,7 +1,66 @@
-// The receivers of both lines of a tape.
-use station::receiver::Receiver;
+// The receivers of both lines of a tape: fresh, one of them, and whether they are in a bad state.
+use link::MASTER;
+use link::Receiver;
+use link::fresh_addressed;
+use link::fresh_point;
+use link::is_bad_state;
+use tape_spec::Receivers;
+use tape_spec::Side;
+ghost use mathlib.Core.Path.{_≡_};
+ghost use Rattle.tape_spec.specs.Whole.{freshReceivers, on as onSide, turned as turnedOn};
+ghost use Rattle.tape_spec.specs.Taping.{badReceivers};
 
-pub struct Receivers {
-    pub point: Receiver,
-    pub addressed: Receiver,
+pub(crate) fn fresh_receivers() -> Receivers
+    ensures { λ r. ⌜ r ≡ freshReceivers ⌝ }
+{
+    let made = fresh_addressed(MASTER);
+    let addressed = made.receiver;
+    Receivers {
+        point: fresh_point(),
+        addressed,
+    }
+}
+
+// The receiver of a side.
+pub(crate) fn on(receivers: Receivers, side: Side) -> Receiver
+    ensures { λ r. ⌜ r ≡ onSide side receivers ⌝ }
+{
+    match side {
+        Side::Point => receivers.point,
+        Side::Addressed => receivers.addressed,
+    }
+}
+
+// With another receiver on a side.
+pub(crate) fn turned(receivers: Receivers, side: Side, receiver: Receiver) -> Receivers
+    ensures { λ r. ⌜ r ≡ turnedOn side receiver receivers ⌝ }
+{
+    match side {
+        Side::Point => {
+            let addressed = receivers.addressed;
+            Receivers {
+                point: receiver,
+                addressed,
+            }
+        }
+        Side::Addressed => {
+            let point = receivers.point;
+            Receivers {
+                point,
+                addressed: receiver,
+            }
+        }
+    }
+}
+
+// Whether one of them is in a state that the link refuses.
+pub(crate) fn has_bad(receivers: Receivers) -> bool
+    ensures { λ r. ⌜ r ≡ badReceivers receivers ⌝ }
+{
+    let point = receivers.point;
+    if is_bad_state(point) {
+        return true;
+    }
+    let addressed = receivers.addressed;
+    is_bad_state(addressed)
 }

@@ -1,6 +1,6 @@
 // Whole numbers in decimal digits.
-use ground::laying::Placed;
-use ground::laying::put;
+use ground::Placed;
+use ground::put;
 ghost use mathlib.Core.Path.{_≡_};
 ghost use Rattle.ground.specs.Laying.{ended, put as putOf};
 ghost use Rattle.text.specs.Decimal.{decimal};

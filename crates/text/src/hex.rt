@@ -1,8 +1,8 @@
 // Bytes as upper-case hex pairs.
-use ground::laying::Placed;
-use ground::laying::put;
-use ground::laying::room;
-use ground::refusal::Refusal;
+use ground::Placed;
+use ground::Refusal;
+use ground::put;
+use ground::room;
 ghost use mathlib.Core.Path.{_≡_};
 ghost use Prim.Native.Nat.{_+_, _*_, _≤_, _<_};
 ghost use lib.ListN.{length};

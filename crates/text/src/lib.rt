@@ -1,3 +1,6 @@
 // Numbers and bytes as text in a lent buffer.
-pub mod decimal;
-pub mod hex;
+mod decimal;
+mod hex;
+
+pub use decimal::put_decimal;
+pub use hex::put_pairs;

@@ -1,4 +1,13 @@
-// How a content stands on the wire, stuffed between start and stop: as constants alone. The functions are in the crate `images`.
-pub mod image;
-pub mod limits;
-pub mod stuffing;
+// Stuffing and wire images: the length of a content's image, and a frame put together and written.
+mod frame;
+mod image;
+mod stuffing;
+
+pub use frame::write_frame;
+pub use image::image_length;
+pub use wire_spec::ESCAPE;
+pub use wire_spec::LAST_PARTNER;
+pub use wire_spec::MOST_CONTENT;
+pub use wire_spec::MOST_IMAGE;
+pub use wire_spec::START;
+pub use wire_spec::STOP;

@@ -1,5 +1,53 @@
-// Stuffing: FD, FE and FF travel as FF and a partner.
-pub const ESCAPE: u8 = 0xFF;
+// A content stuffed, and how many of its bytes are.
+use wire_spec::ESCAPE;
+ghost use mathlib.Core.Path.{_≡_};
+ghost use Prim.Native.Nat.{_+_, _≤_};
+ghost use lib.ListN.{length};
+ghost use Rattle.ground.specs.Laying.{laid};
+ghost use Rattle.wire_spec.specs.Stuffing.{stuffed as stuffedOf, stuffing as stuffingOf, specials as specialsOf};
 
-// The partners of FF are 00, 01 and 02.
-pub const LAST_PARTNER: u8 = 0x02;
+// FD, FE and FF are special: the last three of all bytes.
+const FIRST_SPECIAL: u8 = 0xFD;
+
+// Lays one byte, stuffed, into `room` at the place `at`, and answers the place behind it.
+fn stuff_byte(byte: u8, room: &mut [u8], at: usize) -> usize
+    requires { ⌜ at + length (stuffedOf byte) ≤ length (now room) ⌝ }
+    ensures { λ r. ⌜ (r ≡ at + length (stuffedOf byte)) × (now (room .exit) ≡ laid (now (room .entry)) at (stuffedOf byte)) ⌝ }
+{
+    if byte < FIRST_SPECIAL {
+        room[at] = byte;
+        return at + 1;
+    }
+    room[at] = ESCAPE;
+    room[at + 1] = ESCAPE - byte;
+    at + 2
+}
+
+// Lays the stuffing of `content` into the front of `room`, and answers its length.
+pub(crate) fn stuff(content: &[u8], room: &mut [u8]) -> usize
+    requires { ⌜ length (stuffingOf (now content)) ≤ length (now room) ⌝ }
+    ensures { λ r. ⌜ (r ≡ length (stuffingOf (now (content .entry)))) × (now (room .exit) ≡ laid (now (room .entry)) 0 (stuffingOf (now (content .entry)))) ⌝ }
+{
+    let mut at: usize = 0;
+    let mut i: usize = 0;
+    while i < content.len() {
+        at = stuff_byte(content[i], room, at);
+        i += 1;
+    }
+    at
+}
+
+// How many bytes of `content` are FD, FE or FF.
+pub(crate) fn specials(content: &[u8]) -> usize
+    ensures { λ r. ⌜ r ≡ specialsOf (now (content .entry)) ⌝ }
+{
+    let mut count: usize = 0;
+    let mut i: usize = 0;
+    while i < content.len() {
+        if content[i] >= FIRST_SPECIAL {
+            count += 1;
+        }
+        i += 1;
+    }
+    count
+}

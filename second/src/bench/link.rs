@@ -1,25 +1,24 @@
 //! The ops of the two lines: writers, checks, receivers.
 
-use super::{counted, written, World};
+use super::{counted, number, room, written, World};
 use crate::receiver::{Phase, Receiver};
 use crate::station::Station;
 use crate::{fcs as check, frame, hex, refusal, search, writer};
 
 pub fn point_writer(_: &mut World, payload: &[u8]) -> Option<String> {
-    let [room, identifier, command, data @ ..] = payload else {
+    let (room, rest) = room(payload)?;
+    let [identifier, command, data @ ..] = rest else {
         return None;
     };
-    Some(written(*room, |out| {
+    Some(written(room, |out| {
         writer::point(out, *identifier, *command, data)
     }))
 }
 
 pub fn addressed_writer(_: &mut World, payload: &[u8]) -> Option<String> {
-    let [room, address, identifier, command, data @ ..] = payload else {
-        return None;
-    };
-    let head = [*address, *identifier, *command];
-    Some(written(*room, |out| writer::addressed(out, head, data)))
+    let (room, rest) = room(payload)?;
+    let (head, data) = rest.split_first_chunk()?;
+    Some(written(room, |out| writer::addressed(out, *head, data)))
 }
 
 pub fn asked_length(_: &mut World, content: &[u8]) -> Option<String> {
@@ -64,17 +63,19 @@ pub fn new_station(world: &mut World, payload: &[u8]) -> Option<String> {
     Some(number.to_string())
 }
 
-/// Silent in BENCH.md: any line but 0 is addressed, any phase but 0 and 1 is after FF.
+/// Any line but 0 is addressed, any phase but 0 and 1 is after FF.
 pub fn put_receiver(world: &mut World, payload: &[u8]) -> Option<String> {
-    let [line, address, phase, count, fill, ..] = payload else {
+    let [line, address, phase, rest @ ..] = payload else {
         return None;
     };
+    let (count, rest) = number(rest)?;
+    let fill = *rest.first()?;
     let phase = match phase {
         0 => Phase::Outside,
         1 => Phase::Inside,
         _ => Phase::AfterFf,
     };
-    let content = vec![*fill; usize::from(*count)];
+    let content = vec![fill; count];
     if *line == 0 {
         world.point_receiver = Receiver::put(Station::Point, phase, &content);
     } else {

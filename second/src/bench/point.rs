@@ -1,25 +1,25 @@
 //! The ops of the point reader and of its master.
 
-use super::{written, World};
-use crate::command::HEADER_LENGTH;
+use super::{number, room, written, World};
 use crate::master::{Reply, Request};
 use crate::reader::{Device, Last, Lent, Part, Reader};
 use crate::search::Event;
 use crate::{hex, refusal};
 
 pub fn reader(world: &mut World, payload: &[u8]) -> Option<String> {
-    let [event, antenna_count, store_room, out_room, rest @ ..] = payload else {
+    let [event, antenna_count, rest @ ..] = payload else {
         return None;
     };
+    let (store_room, rest) = room(rest)?;
+    let (out_room, rest) = room(rest)?;
     let (antenna, fields) = rest.split_at_checked(usize::from(*antenna_count))?;
-    let header: [u8; HEADER_LENGTH] = std::array::from_fn(|place| place as u8);
     let device = Device {
-        header: &header,
+        header: &world.header,
         antenna,
     };
     let mut lent = Lent {
-        store: &mut world.store[..usize::from(*store_room)],
-        out: &mut world.out[..usize::from(*out_room)],
+        store: &mut world.store[..store_room],
+        out: &mut world.out[..out_room],
     };
     let outcome = world
         .reader
@@ -37,7 +37,7 @@ pub fn reader(world: &mut World, payload: &[u8]) -> Option<String> {
     ))
 }
 
-/// Silent in BENCH.md: a byte over 6 is no event, as 0 is.
+/// A byte over 6 is no event, as 0 is.
 fn event_of(byte: u8, fields: &[u8]) -> Option<Event> {
     match byte {
         1 => Some(Event::Frame(fields.to_vec())),
@@ -72,25 +72,31 @@ pub fn power_on(world: &mut World, _: &[u8]) -> Option<String> {
     ))
 }
 
-/// Silent in BENCH.md: any `has` but 0 is a last command.
+/// Any `has` but 0 is a last command.
 pub fn put_reader(world: &mut World, payload: &[u8]) -> Option<String> {
     let (&speed, rest) = payload.split_first()?;
     let (parameter_05, rest) = rest.split_first_chunk()?;
     let (parameter_80, rest) = rest.split_first_chunk()?;
-    let [has, identifier, command, length, ..] = *rest else {
+    let [has, identifier, command, rest @ ..] = rest else {
         return None;
     };
+    let (length, _) = number(rest)?;
     let last = Last {
-        identifier,
-        command,
-        length: usize::from(length),
+        identifier: *identifier,
+        command: *command,
+        length,
     };
     world.reader = Reader {
         speed,
         parameter_05: *parameter_05,
         parameter_80: *parameter_80,
-        last: (has != 0).then_some(last),
+        last: (*has != 0).then_some(last),
     };
+    Some(String::new())
+}
+
+pub fn put_header(world: &mut World, payload: &[u8]) -> Option<String> {
+    world.header = *payload.first_chunk()?;
     Some(String::new())
 }
 
@@ -103,7 +109,8 @@ pub fn buffers(world: &mut World, _: &[u8]) -> Option<String> {
 }
 
 pub fn request(_: &mut World, payload: &[u8]) -> Option<String> {
-    let [room, identifier, code, data @ ..] = payload else {
+    let (room, rest) = room(payload)?;
+    let [identifier, code, data @ ..] = rest else {
         return None;
     };
     let request = Request {
@@ -111,7 +118,7 @@ pub fn request(_: &mut World, payload: &[u8]) -> Option<String> {
         code: *code,
         data,
     };
-    Some(written(*room, |out| request.write(out)))
+    Some(written(room, |out| request.write(out)))
 }
 
 pub fn reply(_: &mut World, payload: &[u8]) -> Option<String> {
@@ -124,11 +131,11 @@ pub fn reply(_: &mut World, payload: &[u8]) -> Option<String> {
         code: *code,
         data,
     };
-    let line = match request.read(reply) {
+    let fields = match request.read(reply) {
         Ok(Reply::Ack) => "0 ACK -".to_string(),
         Ok(Reply::Nack(number)) => format!("0 NACK {number}"),
         Ok(Reply::Data(data)) => format!("0 DATA {}", hex::dotted(&data)),
         Err(refusal) => format!("{} - -", refusal as u8),
     };
-    Some(line)
+    Some(fields)
 }

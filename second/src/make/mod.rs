@@ -22,22 +22,37 @@ mod tests {
 
     #[test]
     fn scripts_reach_every_op_event_and_refusal() {
-        let text: String = SEEDS
-            .map(|seed| bench::lines(&make::script(seed)))
-            .collect();
+        let text: String = SEEDS.map(|seed| bench::rows(&make::script(seed))).collect();
         let starts = "01 0,01 1,01 2,01 short,02 0,02 1,02 2,02 3,02 short,03 0,03 2,04 ,05 ,\
             10 0 NONE,10 0 FRAME,10 0 CHECK,10 0 SHORT,10 0 LONG,10 0 PAIR,10 4,11 0,11 3,\
             11 short,12 0 NONE,12 0 FRAME,12 0 CHECK,12 0 SHORT,12 0 LONG,12 0 PAIR,12 0 ADDR,\
-            12 4,13,13 short,20 0 out 0,20 0 store 0,20 0 store 130,20 1,20 2,20 4,20 5,20 short,\
-            21 0,21 4,22,22 short,23 ,24 0,24 1,24 5,24 short,25 0 ACK,25 0 DATA,25 0 NACK 1,\
-            25 0 NACK 2,25 0 NACK 3,25 0 NACK 4,25 0 NACK 5,25 0 NACK 6,25 5,25 6,25 7,25 8,25 9,\
-            25 short,end,cut,bad";
+            12 4,13,13 short,20 0 out 0,20 0 out 89,20 0 store 0,20 0 store 89,20 0 store 130,20 1,\
+            20 2,20 4,20 5,20 short,21 0,21 4,22,22 short,23 ,24 0,24 1,24 5,24 short,25 0 ACK,\
+            25 0 DATA,25 0 NACK 1,25 0 NACK 2,25 0 NACK 3,25 0 NACK 4,25 0 NACK 5,25 0 NACK 6,25 5,\
+            25 6,25 7,25 8,25 9,25 short,27,27 short,end,cut,bad";
         let starts: Vec<&str> = starts.split(',').collect();
         all_reached(&text, &starts, |line, start| line.starts_with(start));
         let nacks = [".2A.01.", ".2A.02.", ".2A.03.", ".2A.06.", ".2A.55."];
         all_reached(&text, &nacks, |line, reply| {
             line.starts_with("20 0 out 7") && line.contains(reply)
         });
+        let remembered = [" 131", " 255", " 256", " 386", " 65535"];
+        all_reached(&text, &remembered, |line, length| {
+            line.starts_with("20 4") && line.ends_with(length)
+        });
+        let buffers = ["01 0", "01 2", "02 0", "02 3", "24 0", "24 5"];
+        all_reached(&text, &buffers, |line, start| {
+            line.starts_with(start) && fields(line).any(|field| field.len() == 600 * 3 - 1)
+        });
+        let taken = ["10 0 NONE", "10 0 FRAME", "12 0 NONE", "12 0 FRAME"];
+        all_reached(&text, &taken, |line, start| {
+            let taken = fields(line).nth(3).and_then(|field| field.parse().ok());
+            line.starts_with(start) && taken.is_some_and(|taken: usize| taken > 255)
+        });
+    }
+
+    fn fields(line: &str) -> impl Iterator<Item = &str> {
+        line.split(' ')
     }
 
     #[test]

@@ -8,24 +8,27 @@ use super::prng::Prng;
 use super::wire;
 
 /// Each op with the least payload it takes (BENCH.md, 'Ops').
-const OPS: [(u8, usize); 15] = [
-    (0x01, 3),
-    (0x02, 4),
+const OPS: [(u8, usize); 16] = [
+    (0x01, 4),
+    (0x02, 5),
     (0x03, 0),
     (0x04, 0),
     (0x05, 0),
     (0x10, 0),
     (0x11, 1),
     (0x12, 0),
-    (0x13, 5),
-    (0x20, 4),
+    (0x13, 6),
+    (0x20, 6),
     (0x21, 0),
-    (0x22, 17),
+    (0x22, 18),
     (0x23, 0),
-    (0x24, 3),
+    (0x24, 4),
     (0x25, 3),
+    (0x27, 40),
 ];
-const MOST_PAYLOAD: usize = 255;
+const MOST_PAYLOAD: usize = u16::MAX as usize;
+/// The most bytes of each buffer (BENCH.md, 'What lives from record to record').
+const MOST_ROOM: usize = 600;
 
 /// A script as it grows.
 struct Script {
@@ -54,8 +57,23 @@ pub fn script(seed: u64) -> Vec<u8> {
 impl Script {
     fn record(&mut self, op: u8, payload: &[u8]) {
         let payload = &payload[..payload.len().min(MOST_PAYLOAD)];
-        self.bytes.extend([op, payload.len() as u8]);
+        self.bytes.push(op);
+        self.bytes.extend(two(payload.len()));
         self.bytes.extend(payload);
+    }
+}
+
+/// A number in two bytes, low byte first; the greatest for one that has no room there.
+fn two(number: usize) -> [u8; 2] {
+    u16::try_from(number).unwrap_or(u16::MAX).to_le_bytes()
+}
+
+/// A length over one byte or about that, now and then the greatest.
+fn long(prng: &mut Prng) -> usize {
+    match prng.below(40) {
+        0 => MOST_PAYLOAD,
+        1..=20 => prng.pick(&[254, 255, 256, 257, 511, 512, 513]),
+        _ => prng.between(256, 1500),
     }
 }
 
@@ -88,30 +106,42 @@ fn short(script: &mut Script) {
 fn anything(script: &mut Script) {
     let (op, least) = script.prng.pick(&OPS);
     let length = match script.prng.below(10) {
-        0 => script.prng.below(MOST_PAYLOAD + 1),
+        0 => script.prng.below(256),
+        1 => long(&mut script.prng),
         _ => least + script.prng.below(12),
     };
     let payload = wire::bytes(&mut script.prng, length);
     script.record(op, &payload);
 }
 
-/// The script's last line: `end`, `cut` or `bad`.
+/// The script's last row: `end`, `cut` or `bad`.
 fn ending(script: &mut Script) {
     let (op, _) = script.prng.pick(&OPS);
-    match script.prng.below(10) {
+    match script.prng.below(12) {
         0..=5 => {}
         6 => script.bytes.push(op),
         7 => {
-            let missing = script.prng.between(1, 5);
-            script.bytes.extend([op, missing as u8]);
-            script.bytes.extend(vec![op; missing - 1]);
+            let low = script.prng.pick(&[0, 1, 40, 255]);
+            script.bytes.extend([op, low]);
         }
-        8 => script
+        8..=9 => {
+            let length = script
+                .prng
+                .pick(&[1, 2, 5, 255, 256, 257, 512, MOST_PAYLOAD]);
+            let there = match script.prng.below(3) {
+                0 => length - 1,
+                _ => script.prng.below(length.min(300)),
+            };
+            script.bytes.push(op);
+            script.bytes.extend(two(length));
+            script.bytes.extend(vec![op; there]);
+        }
+        10 => script
             .bytes
-            .push(script.prng.pick(&[0x00, 0x06, 0x14, 0x26])),
+            .push(script.prng.pick(&[0x00, 0x06, 0x14, 0x26, 0x28])),
         _ => {
-            let unknown = script.prng.pick(&[0x00, 0x0F, 0x1F, 0x26, 0xFF]);
-            script.bytes.extend([unknown, 0x00, op]);
+            let unknown = script.prng.pick(&[0x00, 0x0F, 0x1F, 0x26, 0x28, 0xFF]);
+            script.bytes.extend([unknown, 0x00, 0x00, op]);
         }
     }
 }

@@ -10,7 +10,7 @@ pub const EDGE_ADDRESSES: [u8; 9] = [0x00, 0x01, 0x7E, 0x7F, 0x80, 0xFC, 0xFD, 0
 /// A byte; those that are stuffed, and those that mean something on the lines, come often.
 pub fn byte(prng: &mut Prng) -> u8 {
     match prng.below(10) {
-        0..=2 => prng.pick(&[START, STOP, PENDING]),
+        0..=2 => stuffed_byte(prng),
         3..=4 => prng.pick(&[0x00, 0x01, 0x02, 0x03, 0x2A, 0x55, 0x7F]),
         _ => prng.byte(),
     }
@@ -18,6 +18,15 @@ pub fn byte(prng: &mut Prng) -> u8 {
 
 pub fn bytes(prng: &mut Prng, count: usize) -> Vec<u8> {
     (0..count).map(|_| byte(prng)).collect()
+}
+
+fn stuffed_byte(prng: &mut Prng) -> u8 {
+    prng.pick(&[START, STOP, PENDING])
+}
+
+/// Bytes that are all stuffed in a frame.
+pub fn stuffed_bytes(prng: &mut Prng, count: usize) -> Vec<u8> {
+    (0..count).map(|_| stuffed_byte(prng)).collect()
 }
 
 /// The fields of a frame that fits, for a station of this address on the addressed line.
@@ -131,4 +140,17 @@ fn quiet_noise(prng: &mut Prng) -> Vec<u8> {
         .into_iter()
         .filter(|&byte| byte != START)
         .collect()
+}
+
+/// So many bytes that bring no event outside a frame, and then a stretch.
+pub fn long_stretch(prng: &mut Prng, line: Line, own: u8, count: usize) -> Vec<u8> {
+    let mut silent = bytes(prng, count);
+    match prng.below(3) {
+        0 => silent.fill(START),
+        _ => silent
+            .iter_mut()
+            .filter(|byte| **byte == START)
+            .for_each(|byte| *byte = STOP),
+    }
+    [silent, stretch(prng, line, own)].concat()
 }

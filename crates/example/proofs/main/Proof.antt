@@ -10,15 +10,15 @@ use lib.ListN.{length, take, replicate}
 use lib.Seq.{length-take-le}
 use Rattle.checks.specs.Fcs.{shiftStep, shiftSteps, byteStep, run, residue, fcs, fcsBytes}
 use Rattle.checks.specs.Check.{checkOf, withCheck, front, came, alike, isRight}
-use Rattle.wire.specs.Stuffing.{stuffed, stuffing}
-use Rattle.wire.specs.Image.{image}
-use Rattle.wire.specs.Writing.{After, imageWritten}
-use Rattle.station.specs.declared.line.Line.the-variants.{Point}
-use Rattle.station.specs.Frame.{pointContent}
-use Rattle.station.specs.Writers.{written, pointWritten}
-use Rattle.station.specs.Events.{verdict}
-use Rattle.station.specs.Turning.{kept, plain, contentByte, inside, within, turn}
-use Rattle.station.specs.Receiving.{fresh, Said, saying, moved, outcome, heard, received}
+use Rattle.wire_spec.specs.Stuffing.{stuffed, stuffing}
+use Rattle.wire_spec.specs.Image.{image}
+use Rattle.wire_spec.specs.Writing.{After, imageWritten}
+use Rattle.link_spec.specs.declared.station.Line.the-variants.{Point}
+use Rattle.link_spec.specs.Frame.{pointContent}
+use Rattle.link_spec.specs.Writers.{written, pointWritten}
+use Rattle.link_spec.specs.Events.{verdict}
+use Rattle.link_spec.specs.Turning.{kept, plain, contentByte, inside, within, turn}
+use Rattle.link_spec.specs.Receiving.{fresh, Said, saying, moved, outcome, heard, received}
 use Rattle.example.proofs.main.Statement.{statement}
 use Rattle.example.proofs.main.Tie as tie
 

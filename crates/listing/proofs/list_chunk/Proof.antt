@@ -7,9 +7,9 @@ use native.Mathlib.Omega.{arith}
 use lib.ListN.{length, drop, length-drop}
 use lib.Seq.{length-take-le}
 use Rattle.ground.proofs.Laws.Lists.{take-rest}
-use Rattle.tape.specs.Limits.{mostRecords}
-use Rattle.tape.specs.Taping.{told, listed}
-use Rattle.tape.proofs.Laws.Taping.{Within, listed-within}
+use Rattle.tape_spec.specs.Limits.{mostRecords}
+use Rattle.tape_spec.specs.Taping.{told, listed}
+use Rattle.tape_spec.proofs.Laws.Taping.{Within, listed-within}
 use Rattle.listing.proofs.list_chunk.Statement.{statement}
 use Rattle.listing.proofs.list_chunk.Tie as tie
 

@@ -7,9 +7,9 @@ use borrow.Author.Needs.{needs}
 use lib.ListN.{length}
 use lib.Seq.{length-take-le}
 use Rattle.ground.proofs.Laws.Laying.{put-ends}
-use Rattle.tape.specs.declared.tape.Tape.{Tape}
-use Rattle.tape.specs.Limits.{mostRecords}
-use Rattle.tape.specs.Taping.{lastOf}
+use Rattle.tape_spec.specs.declared.tape.Tape.{Tape}
+use Rattle.tape_spec.specs.Limits.{mostRecords}
+use Rattle.tape_spec.specs.Taping.{lastOf}
 use Rattle.listing.proofs.list_tape.Statement.{statement}
 use Rattle.listing.proofs.list_tape.Tie as tie
 

@@ -6,7 +6,7 @@ use native.Mathlib.Omega.{arith}
 use borrow.Author.Needs.{needs}
 use lib.Seq.{length-take-le}
 use Rattle.ground.proofs.Laws.Laying.{put-ends}
-use Rattle.lines.specs.Lines.{headerLine}
+use Rattle.tape_spec.specs.Rows.{headerLine}
 use Rattle.listing.proofs.main.Statement.{statement}
 use Rattle.listing.proofs.main.Tie as tie
 

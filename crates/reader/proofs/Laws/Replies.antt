@@ -1,57 +1,61 @@
--- A reply's frame fits the buffers that a reader is lent; and what is replied to each command.
+-- A reply's frame is written whole: it fits the buffers that a reader is lent.
 -- Assumes nothing.
-use mathlib.Core.Path.{_≡_, refl}
-use mathlib.Core.Bool.{true, false}
+use mathlib.Core.Path.{_≡_, ap, _∙_}
+use mathlib.Core.Bool.{Bool, cond}
 use mathlib.Core.List.{List}
 use Prim.Native.Nat.{ℕ, _≤_}
 use native.Mathlib.Omega.{arith}
-use lib.ListN.{length}
-use Rattle.ground.proofs.Laws.Choice.{cond-elim}
-use Rattle.wire.specs.Image.{image}
-use Rattle.wire.proofs.Laws.Image.{room-for-any}
-use Rattle.station.specs.Limits.{mostData}
-use Rattle.station.specs.Frame.{pointContent}
-use Rattle.station.proofs.Laws.Frame.{length-point}
-use Rattle.request.specs.declared.parameter.Parameter.{Parameter}
-use Rattle.request.specs.declared.card.Card.{Card}
-use Rattle.request.specs.declared.command.Command.{Command}
-use Rattle.request.specs.declared.command.Command.the-variants as Command
-use Rattle.request.specs.Cards.{isCode}
-use Rattle.request.specs.Replies.{Reply, ACK, NACK, DATA, noCard}
-use Rattle.reader.specs.Limits.{room}
-use Rattle.reader.specs.Replies.{replyTo, IsAnswer}
+use lib.ListN.{length, take, drop, length-append}
+use lib.Seq.{take-append-seam}
+use Rattle.ground.specs.declared.refusal.Counted.{Counted}
+use Rattle.ground.specs.Refusals.{counted}
+use Rattle.wire_spec.specs.Image.{image}
+use Rattle.wire_spec.specs.Writing.{After, after, leaving}
+use Rattle.link_spec.specs.Limits.{mostData}
+use Rattle.link_spec.specs.Frame.{pointContent}
+use Rattle.link_spec.specs.Writers.{pointWritten}
+use Rattle.link_spec.proofs.Laws.Writers.{point-writes}
+use Rattle.request_spec.specs.declared.parameter.Parameter.{Parameter}
+use Rattle.request_spec.specs.declared.command.Card.{Card}
+use Rattle.request_spec.specs.declared.command.Command.{Command}
+use Rattle.request_spec.specs.declared.command.Command.the-variants as Command
+use Rattle.request_spec.specs.Cards.{isCode}
+use Rattle.request_spec.specs.Replies.{NACK, DATA, noCard}
+use Rattle.reader_spec.specs.Limits.{room}
+use Rattle.reader_spec.specs.Replies.{replyContent, replyTo}
+use Rattle.reader_spec.proofs.Laws.Replies.{point-room}
+use Rattle.reader.specs.Replies.{Fills}
 
--- no frame with data within the limit is longer than the room
-pub point-room : (identifier command : ℕ) («data» : List ℕ) → length «data» ≤ mostData
-    → length (image (pointContent identifier command «data»)) ≤ room
-point-room identifier command «data» fits =
-    room-for-any (pointContent identifier command «data») (omega (arith, length-point identifier command «data»))
+-- the writer refuses no frame with data within the limit
+pub reply-put : (r : Counted) (identifier command : ℕ) («data» out : List ℕ) {out′ : List ℕ} → length «data» ≤ mostData → room ≤ length out
+    → after r out′ ≡ pointWritten identifier command «data» out
+    → Fills (r .count) out′ (pointContent identifier command «data») out
+reply-put r identifier command «data» out fits long says =
+    let within = point-room identifier command «data» fits in
+    let written = says ∙ point-writes identifier command «data» out fits (omega arith) in (
+      ap (λ (a : After). leaving (counted (a .answer .count)) (a .out)) written,
+      omega (arith, ap (λ (a : After). a .answer .count) written),
+    )
 
--- the third column of the table, command by command
-module _ (value : Parameter → List ℕ) (header antenna : List ℕ) where
-  pub replies-header : replyTo value Command.Header header antenna ≡ DATA header
-  unfolding replyTo
-  replies-header = refl
+-- what was put stands in front
+pub puts-front : {n : ℕ} {out′ : List ℕ} (content out : List ℕ) → Fills n out′ content out → take n out′ ≡ image content
+puts-front content out (e, within) =
+    ap (λ (a : After). take (a .answer .count) (a .out)) e
+    ∙ take-append-seam (image content) _
 
-  pub replies-ack : (p : Parameter) → replyTo value (Command.Write p) header antenna ≡ ACK
-  unfolding replyTo
-  replies-ack p = refl
+-- so much of out is there to be copied
+pub puts-within : {n : ℕ} {out′ : List ℕ} (content out : List ℕ) → Fills n out′ content out → n ≤ length out′
+puts-within content out put =
+    let n = ap (λ (a : After). a .answer .count) (put .0) in
+    let long = ap (λ (a : After). length (a .out)) (put .0) in
+    omega (arith, n, long, length-append (image content) (drop (length (image content)) out))
 
-  pub replies-value : (p : Parameter) → replyTo value (Command.Read p) header antenna ≡ DATA (value p)
-  unfolding replyTo
-  replies-value p = refl
-
-  pub replies-card : (P : Reply → Type 0) (card : Card) → (isCode card (length antenna) ≡ true → P (DATA antenna))
-      → (isCode card (length antenna) ≡ false → P (NACK noCard))
-      → P (replyTo value (Command.Card card) header antenna)
-  unfolding replyTo
-  replies-card P card whole none = cond-elim P (isCode card (length antenna)) whole none
-
--- a command that is executed is answered ACK, NACK 6 or data
-pub executed-answer : (value : Parameter → List ℕ) (command : Command) (header antenna : List ℕ)
-    → IsAnswer (replyTo value command header antenna)
+-- a card's reply, by its test
+pub puts-card : {n : ℕ} {out′ : List ℕ} {command : Command} {card : Card} {t : Bool} (identifier code : ℕ) (value : Parameter → List ℕ)
+    (header antenna out : List ℕ)
+    → command ≡ Command.Card card
+    → isCode card (length antenna) ≡ t
+    → Fills n out′ (replyContent identifier code (cond t (DATA antenna) (NACK noCard))) out
+    → Fills n out′ (replyContent identifier code (replyTo value command header antenna)) out
 unfolding replyTo
-executed-answer value Command.Header header antenna = tt
-executed-answer value (Command.Write p) header antenna = tt
-executed-answer value (Command.Read p) header antenna = tt
-executed-answer value (Command.Card card) header antenna = replies-card value header antenna IsAnswer card (λ _. tt) (λ _. refl)
+puts-card identifier code value header antenna out asked whole put = rw (asked, whole) put

@@ -1,8 +1,8 @@
 //! Scenes of the point line's two ends: requests, and the replies the master reads.
 
-use super::{link, Script};
+use super::{link, reader, Script};
 use crate::command::{ACK, ACKNOWLEDGEMENT, HEADER_LENGTH};
-use crate::frame::Line;
+use crate::frame::{Line, START};
 use crate::make::prng::Prng;
 use crate::make::wire;
 
@@ -11,6 +11,8 @@ pub struct Talk {
     pub identifier: u8,
     pub code: u8,
     pub data: Vec<u8>,
+    /// The device header, where it is asked for.
+    pub header: Vec<u8>,
     pub antenna: Vec<u8>,
     pub reply: Vec<u8>,
 }
@@ -26,7 +28,7 @@ impl Talk {
 pub fn good(prng: &mut Prng) -> Talk {
     let identifier = match prng.below(3) {
         0 => wire::byte(prng),
-        _ => prng.below(3) as u8,
+        _ => prng.pick(&[0x00, 0x01, 0x02, START]),
     };
     let code = prng.pick(&[0x00, 0x01, 0x01, 0x02, 0x02, 0x10, 0x14, 0x18]);
     let (parameter, length) = prng.pick(&[(0x02, 1), (0x05, 4), (0x80, 8)]);
@@ -39,8 +41,12 @@ pub fn good(prng: &mut Prng) -> Talk {
         _ => prng.pick(&[1, 5, 6, 8]),
     };
     let antenna = wire::bytes(prng, card);
+    let header = match code {
+        0x00 => header(prng, identifier),
+        _ => vec![],
+    };
     let (data, answer) = match code {
-        0x00 => (vec![], (0..HEADER_LENGTH as u8).collect()),
+        0x00 => (vec![], header.clone()),
         0x01 => ([&[parameter], value.as_slice()].concat(), vec![ACK]),
         0x02 => (vec![parameter], value),
         _ => (vec![], antenna.clone()),
@@ -54,8 +60,30 @@ pub fn good(prng: &mut Prng) -> Talk {
         identifier,
         code,
         data,
+        header,
         antenna,
         reply,
+    }
+}
+
+/// A device header: as at first, any, all of it stuffed in the reply, or the check there as well.
+fn header(prng: &mut Prng, identifier: u8) -> Vec<u8> {
+    match prng.below(4) {
+        0 => (0..HEADER_LENGTH as u8).collect(),
+        1 => wire::bytes(prng, HEADER_LENGTH),
+        2 => wire::stuffed_bytes(prng, HEADER_LENGTH),
+        _ => all_stuffed(prng, identifier),
+    }
+}
+
+/// A header of which, and of the reply's check, every byte is stuffed: one of some thousand is so.
+fn all_stuffed(prng: &mut Prng, identifier: u8) -> Vec<u8> {
+    loop {
+        let header = wire::stuffed_bytes(prng, HEADER_LENGTH);
+        let content = Line::Point.content(&[&[identifier, 0x00], header.as_slice()].concat());
+        if content[2..].iter().all(|&byte| byte >= START) {
+            return header;
+        }
     }
 }
 
@@ -83,21 +111,31 @@ pub fn exchange(script: &mut Script) {
     let request = talk.request();
     let image = Line::Point.image(&request);
     let room = link::room(&mut script.prng, image.len());
-    script.record(0x24, &[&[room], request.as_slice()].concat());
+    script.record(0x24, &[&room, request.as_slice()].concat());
     link::pieces(script, 0x10, &image);
+    put_header(script, &talk);
     let rooms = script.prng.pick(&[
-        [0xFF, 0xFF],
+        [600, 600],
         [130, 130],
-        [0xFF, 130],
+        [255, 130],
+        [130, 256],
+        [512, 601],
+        [65535, 512],
         [129, 130],
         [130, 129],
     ]);
-    let head = [0x01, talk.antenna.len() as u8, rooms[0], rooms[1]];
-    script.record(0x20, &[&head, talk.antenna.as_slice(), &request].concat());
+    reader::call(script, reader::FRAME, rooms, &talk.antenna, &request);
     if script.prng.percent(50) {
         link::pieces(script, 0x10, &Line::Point.image(&talk.reply));
     }
     read(script, &talk, &talk.reply);
+}
+
+/// Puts the header asked for, mostly.
+pub fn put_header(script: &mut Script, talk: &Talk) {
+    if talk.code == 0x00 && script.prng.percent(80) {
+        script.record(0x27, &talk.header);
+    }
 }
 
 fn read(script: &mut Script, talk: &Talk, reply: &[u8]) {

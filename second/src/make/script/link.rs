@@ -1,20 +1,28 @@
 //! Scenes of the two lines: writers, checks, receivers and their records.
 
-use super::{Script, MOST_PAYLOAD};
+use super::{long, two, Script, MOST_PAYLOAD, MOST_ROOM};
 use crate::frame::{self, Line, PENDING, START, STOP};
 use crate::make::prng::Prng;
 use crate::make::wire::{self, EDGE_ADDRESSES};
 
-/// A room about an image's length.
-pub fn room(prng: &mut Prng, image: usize) -> u8 {
-    let room = match prng.below(8) {
-        0..=2 => image,
-        3..=4 => image - 1,
-        5 => image + prng.between(1, 4),
-        6 => prng.pick(&[0, 1, MOST_PAYLOAD]),
-        _ => prng.below(MOST_PAYLOAD + 1),
+/// Numbers about the ends of one byte and of two, and about the limits 64 and 130; 320, 386 and
+/// 33280 are such that one of their bytes alone is a limit.
+pub const EDGE_NUMBERS: [usize; 18] = [
+    63, 64, 65, 129, 130, 131, 254, 255, 256, 257, 320, 321, 386, 387, 512, 33280, 65534, 65535,
+];
+
+/// A room about an image's length, or about a size of the buffers.
+pub fn room(prng: &mut Prng, image: usize) -> [u8; 2] {
+    let room = match prng.below(16) {
+        0..=5 => image,
+        6..=9 => image - 1,
+        10..=11 => image + prng.between(1, 4),
+        12 => prng.pick(&[0, 1]),
+        13 => prng.pick(&EDGE_NUMBERS),
+        14 => prng.between(MOST_ROOM - 2, MOST_ROOM + 2),
+        _ => prng.below(MOST_ROOM + 100),
     };
-    room.min(MOST_PAYLOAD) as u8
+    two(room)
 }
 
 /// Both writers, with data up to and over 60 bytes.
@@ -25,7 +33,10 @@ pub fn writers(script: &mut Script) {
         6 => prng.between(6, 59),
         7 => 60,
         8 => 61,
-        _ => prng.between(62, 200),
+        _ => match prng.below(3) {
+            0 => long(prng),
+            _ => prng.between(62, 200),
+        },
     };
     let data = wire::bytes(prng, length);
     let mut head = [
@@ -40,15 +51,16 @@ pub fn writers(script: &mut Script) {
     let addressed = [&head, data.as_slice()].concat();
     let point_room = room(prng, Line::Point.image(&point).len());
     let addressed_room = room(prng, Line::Addressed.image(&addressed).len());
-    script.record(0x01, &[&[point_room], point.as_slice()].concat());
-    script.record(0x02, &[&[addressed_room], addressed.as_slice()].concat());
+    script.record(0x01, &[&point_room, point.as_slice()].concat());
+    script.record(0x02, &[&addressed_room, addressed.as_slice()].concat());
 }
 
 /// The length asked for a content, and both checks.
 pub fn checks(script: &mut Script) {
     let prng = &mut script.prng;
-    let length = match prng.below(4) {
-        0 => prng.pick(&[0, 1, 63, 64, 65, MOST_PAYLOAD]),
+    let length = match prng.below(6) {
+        0 => prng.pick(&[0, 1, 63, 64, 65]),
+        1 => long(prng),
         _ => prng.between(2, 80),
     };
     let bytes = wire::bytes(prng, length);
@@ -61,7 +73,7 @@ pub fn checks(script: &mut Script) {
 
 pub fn point_pieces(script: &mut Script) {
     for _ in 0..script.prng.between(1, 4) {
-        let stretch = wire::stretch(&mut script.prng, Line::Point, 0);
+        let stretch = stretch(&mut script.prng, Line::Point, 0);
         pieces(script, 0x10, &stretch);
     }
 }
@@ -77,8 +89,19 @@ pub fn addressed_pieces(script: &mut Script) {
         script.record(0x11, &[own]);
     }
     for _ in 0..script.prng.between(1, 4) {
-        let stretch = wire::stretch(&mut script.prng, Line::Addressed, own);
+        let stretch = stretch(&mut script.prng, Line::Addressed, own);
         pieces(script, 0x12, &stretch);
+    }
+}
+
+/// A stretch, now and then after many bytes that bring no event.
+fn stretch(prng: &mut Prng, line: Line, own: u8) -> Vec<u8> {
+    match prng.below(12) {
+        0 => {
+            let count = long(prng);
+            wire::long_stretch(prng, line, own, count)
+        }
+        _ => wire::stretch(prng, line, own),
     }
 }
 
@@ -86,8 +109,8 @@ pub fn addressed_pieces(script: &mut Script) {
 pub fn pieces(script: &mut Script, op: u8, stretch: &[u8]) {
     let most = match script.prng.below(6) {
         0..=2 => MOST_PAYLOAD,
-        3 => 1,
-        _ => 20,
+        3 if stretch.len() < 300 => 1,
+        _ => 20.max(stretch.len() / 10),
     };
     let mut rest = stretch;
     while !rest.is_empty() {
@@ -107,8 +130,9 @@ pub fn pieces(script: &mut Script, op: u8, stretch: &[u8]) {
 pub fn put_record(script: &mut Script) {
     let prng = &mut script.prng;
     let line = prng.pick(&[Line::Point, Line::Addressed]);
-    let count = match prng.below(3) {
-        0 => prng.pick(&[0, 1, 2, 3, 4, 61, 62, 63, 64, 65, 255]),
+    let count = match prng.below(6) {
+        0 => prng.pick(&[0, 1, 2, 3, 4, 61, 62, 63, 64, 65]),
+        1 => prng.pick(&EDGE_NUMBERS),
         _ => prng.below(66),
     };
     let address = match prng.below(3) {
@@ -122,19 +146,20 @@ pub fn put_record(script: &mut Script) {
         Line::Addressed => prng.pick(&[1, 1, 1, 2]),
     };
     let rest = rest_of_frame(prng, line, &vec![fill; count], phase > 1);
-    script.record(0x13, &[which, address, phase, count as u8, fill]);
+    let [low, high] = two(count);
+    script.record(0x13, &[which, address, phase, low, high, fill]);
     let op = match line {
         Line::Point => 0x10,
         Line::Addressed => 0x12,
     };
     if script.prng.percent(30) {
-        let stretch = wire::stretch(&mut script.prng, line, address);
+        let stretch = stretch(&mut script.prng, line, address);
         pieces(script, op, &stretch);
     }
     pieces(script, op, &rest);
     if count > 64 || script.prng.percent(30) {
         script.record(op, &[]);
-        script.record(0x13, &[which, 0x05, 0, 0, 0]);
+        script.record(0x13, &[which, 0x05, 0, 0, 0, 0]);
     }
 }
 

@@ -1,22 +1,28 @@
 //! Scenes of the point reader alone: repeats, calls at the edges, records put.
 
 use super::dialogue::{self, Talk};
-use super::Script;
+use super::link::EDGE_NUMBERS;
+use super::{long, two, Script, MOST_ROOM};
+use crate::command::HEADER_LENGTH;
 use crate::make::prng::Prng;
 use crate::make::wire;
 
-const FRAME: u8 = 1;
+pub const FRAME: u8 = 1;
 const CHECK: u8 = 2;
+const WHOLE: [usize; 2] = [MOST_ROOM, MOST_ROOM];
 
-fn call(script: &mut Script, event: u8, rooms: [u8; 2], antenna: &[u8], fields: &[u8]) {
-    let head = [event, antenna.len() as u8, rooms[0], rooms[1]];
-    script.record(0x20, &[&head, antenna, fields].concat());
+/// A call of the reader; the rooms are those of store and out.
+pub fn call(script: &mut Script, event: u8, rooms: [usize; 2], antenna: &[u8], fields: &[u8]) {
+    let head = [event, antenna.len() as u8];
+    let rooms = rooms.map(two).concat();
+    script.record(0x20, &[&head, rooms.as_slice(), antenna, fields].concat());
 }
 
 /// A command executed, something in between, and its repeat.
 pub fn repeats(script: &mut Script) {
     let talk = dialogue::good(&mut script.prng);
-    call(script, FRAME, [0xFF, 0xFF], &talk.antenna, &talk.request());
+    dialogue::put_header(script, &talk);
+    call(script, FRAME, WHOLE, &talk.antenna, &talk.request());
     for _ in 0..script.prng.below(3) {
         between(script, &talk);
     }
@@ -26,7 +32,8 @@ pub fn repeats(script: &mut Script) {
         1 => again.extend([0x00, 0xFD]),
         _ => {}
     }
-    let rooms = script.prng.pick(&[[0xFF, 0xFF], [130, 130], [200, 131]]);
+    let rooms = [WHOLE, [130, 130], [200, 131], [512, 255], [256, 65535]];
+    let rooms = script.prng.pick(&rooms);
     call(script, FRAME, rooms, &[], &again);
     if script.prng.percent(30) {
         script.record(0x23, &[]);
@@ -36,8 +43,8 @@ pub fn repeats(script: &mut Script) {
 /// What may come between a command and its repeat.
 fn between(script: &mut Script, talk: &Talk) {
     let request = talk.request();
-    let rooms = [0xFF, 0xFF];
-    match script.prng.below(9) {
+    let rooms = WHOLE;
+    match script.prng.below(10) {
         0 => script.record(0x21, &[]),
         1 => call(script, FRAME, [129, 130], &[], &request),
         2 => call(script, FRAME, rooms, &[0; 9], &request),
@@ -46,9 +53,13 @@ fn between(script: &mut Script, talk: &Talk) {
         5 => call(script, CHECK, rooms, &[], &request),
         6 => call(script, FRAME, rooms, &[], &[talk.identifier ^ 1, 0x10]),
         7 => call(script, 3, rooms, &[], &[]),
+        8 => {
+            let header = wire::bytes(&mut script.prng, HEADER_LENGTH);
+            script.record(0x27, &header);
+        }
         _ => {
-            let length = script.prng.pick(&[0, 1, 7, 46, 129, 130, 131, 255]);
-            put(script, 3, [1, talk.identifier, talk.code, length]);
+            let length = length(&mut script.prng);
+            put(script, 3, [1, talk.identifier, talk.code], length);
         }
     }
 }
@@ -60,9 +71,13 @@ pub fn any_call(script: &mut Script) {
     let rooms = [edge_room(prng), edge_room(prng)];
     let count = prng.pick(&[0, 0, 1, 4, 5, 6, 8, 9, 20]);
     let antenna = wire::bytes(prng, count);
-    let fields = match prng.below(3) {
-        0 => {
+    let fields = match prng.below(12) {
+        0..=2 => {
             let length = prng.pick(&[0, 1, 2, 3, 61, 62, 63, 100]);
+            wire::bytes(prng, length)
+        }
+        3 => {
+            let length = long(prng);
             wire::bytes(prng, length)
         }
         _ => dialogue::any(prng).request(),
@@ -70,34 +85,44 @@ pub fn any_call(script: &mut Script) {
     call(script, event, rooms, &antenna, &fields);
 }
 
-fn edge_room(prng: &mut Prng) -> u8 {
-    prng.pick(&[0, 129, 130, 130, 130, 131, 0xFF, 0xFF, 0xFF, 0xFF])
+fn edge_room(prng: &mut Prng) -> usize {
+    match prng.below(10) {
+        0 => prng.pick(&[0, 1, 128, 129]),
+        1..=4 => 130,
+        5..=6 => prng.between(MOST_ROOM - 2, MOST_ROOM + 2),
+        _ => prng.pick(&[131, 255, 256, 257, 385, 386, 511, 512, 513, 33024, 65535]),
+    }
+}
+
+/// A length to remember.
+fn length(prng: &mut Prng) -> usize {
+    match prng.below(3) {
+        0 => prng.pick(&[0, 1, 7, 46, 89]),
+        1 => prng.pick(&[129, 130, 131]),
+        _ => prng.pick(&EDGE_NUMBERS),
+    }
 }
 
 /// Any reader record, and calls of it; a sound one at the end, mostly.
 pub fn put_record(script: &mut Script) {
     let prng = &mut script.prng;
     let speed = prng.pick(&[0, 2, 3, 3, 10, 11, 255]);
-    let length = prng.pick(&[0, 46, 130, 131, 255]);
-    let last = [
-        prng.pick(&[0, 1, 1, 2]),
-        wire::byte(prng),
-        wire::byte(prng),
-        length,
-    ];
-    put(script, speed, last);
-    call(script, FRAME, [0xFF, 0xFF], &[], &last[1..3]);
+    let length = length(prng);
+    let last = [prng.pick(&[0, 1, 1, 2]), wire::byte(prng), wire::byte(prng)];
+    put(script, speed, last, length);
+    call(script, FRAME, WHOLE, &[], &last[1..]);
     if script.prng.percent(50) {
         any_call(script);
     }
     script.record(0x21, &[]);
     if script.prng.percent(90) {
-        put(script, 3, [0, 0, 0, length]);
+        put(script, 3, [0, 0, 0], length);
     }
 }
 
-/// Puts a record; `last` is whether there is a last command, then identifier, command, length.
-fn put(script: &mut Script, speed: u8, last: [u8; 4]) {
+/// Puts a record; `last` is whether there is a last command, then identifier and command.
+fn put(script: &mut Script, speed: u8, last: [u8; 3], length: usize) {
     let parameters = wire::bytes(&mut script.prng, 12);
-    script.record(0x22, &[&[speed], parameters.as_slice(), &last].concat());
+    let record = [&[speed], parameters.as_slice(), &last, &two(length)].concat();
+    script.record(0x22, &record);
 }

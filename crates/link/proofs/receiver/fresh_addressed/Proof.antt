@@ -2,7 +2,7 @@
 -- Assumes nothing.
 use mathlib.Core.Path.{sym, _∙_}
 use borrow.Author.Needs.{needs}
-use Rattle.station.specs.Receiving.{freshMade}
+use Rattle.link_spec.specs.Receiving.{freshMade}
 use Rattle.link.proofs.receiver.fresh_addressed.Statement.{statement}
 use Rattle.link.proofs.receiver.fresh_addressed.Tie as tie
 

@@ -8,15 +8,15 @@ use borrow.Author.Needs.{needs}
 use lib.ListN.{length, take, getD, length-map}
 use lib.Seq.{length-take-le}
 use Rattle.checks.specs.declared.kind.Check.{Check}
-use Rattle.wire.specs.Limits.{mostContent}
-use Rattle.station.specs.declared.event.Verdict.{Verdict}
-use Rattle.station.specs.declared.turn.Turn.{Turn}
-use Rattle.station.specs.declared.receiver.Receiver.{Receiver}
-use Rattle.station.specs.Events.{verdict}
-use Rattle.station.specs.Turning.{turn}
-use Rattle.station.specs.Receiving.{being, outside, moved, outcome, answering, heard}
-use Rattle.station.proofs.Laws.Turning.{Sound, turn-sound}
-use Rattle.station.proofs.Laws.Receiving.{Going, runs-out, next-byte, breaks-off}
+use Rattle.wire_spec.specs.Limits.{mostContent}
+use Rattle.link_spec.specs.declared.event.Verdict.{Verdict}
+use Rattle.link_spec.specs.declared.receiver.Turn.{Turn}
+use Rattle.link_spec.specs.declared.receiver.Receiver.{Receiver}
+use Rattle.link_spec.specs.Events.{verdict}
+use Rattle.link_spec.specs.Turning.{turn}
+use Rattle.link_spec.specs.Receiving.{being, outside, moved, outcome, answering, heard}
+use Rattle.link_spec.proofs.Laws.Turning.{Sound, turn-sound}
+use Rattle.link_spec.proofs.Laws.Receiving.{Going, runs-out, next-byte, breaks-off}
 use Rattle.link.specs.declared.receiver.Found.{Found}
 use Rattle.link.proofs.receiver.hear.Statement.{statement}
 use Rattle.link.proofs.receiver.hear.Tie as tie

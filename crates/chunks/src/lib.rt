@@ -1,3 +1,0 @@
-// A tape's bytes in, the listing's text out.
-pub mod chunk;
-mod run;

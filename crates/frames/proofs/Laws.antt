@@ -1,2 +1,0 @@
--- Theorems about the definitions of specs/, each with the noun it speaks of.
-pub mod Frame

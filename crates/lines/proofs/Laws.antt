@@ -1,2 +1,0 @@
--- The laws, each file with the noun that it speaks of.
-pub mod Lines

@@ -1,0 +1,103 @@
+// The receiver's rules for one byte: what it means, by where the receiver is, and which event a stop byte tells.
+use crate::station::takes;
+use checks::Check;
+use checks::check_length;
+use checks::is_right;
+use link_spec::Event;
+use link_spec::LEAST_CONTENT;
+use link_spec::Line;
+use link_spec::Phase;
+use link_spec::Turn;
+use link_spec::Verdict;
+use wire::ESCAPE;
+use wire::LAST_PARTNER;
+use wire::MOST_CONTENT;
+use wire::START;
+use wire::STOP;
+ghost use mathlib.Core.Path.{_≡_};
+ghost use Rattle.link_spec.specs.Events.{verdict};
+ghost use Rattle.link_spec.specs.Turning.{turn, inside as insideOf, plain as plainOf, partner as partnerOf, kept as keptOf};
+
+// FD before all else; then by where the receiver is.
+pub(crate) fn at_byte(line: Line, phase: Phase, count: usize, byte: u8) -> Turn
+    ensures { λ r. ⌜ r ≡ turn line phase count byte ⌝ }
+{
+    if byte == START {
+        return Turn::Begin;
+    }
+    match phase {
+        Phase::Outside => Turn::Rest,
+        Phase::Inside => inside(line, count, byte),
+        Phase::Pending => partner(count, byte),
+    }
+}
+
+// Inside a frame, at another byte than FD.
+fn inside(line: Line, count: usize, byte: u8) -> Turn
+    ensures { λ r. ⌜ r ≡ insideOf line count byte ⌝ }
+{
+    if byte == STOP {
+        return Turn::Stop;
+    }
+    match line {
+        Line::Point => plain(count, byte),
+        Line::Addressed(station) => {
+            if count > 0 {
+                return plain(count, byte);
+            }
+            if takes(station, byte) {
+                return kept(count, byte);
+            }
+            Turn::Tell(Event::Addr)
+        }
+    }
+}
+
+// At a byte that is neither start nor stop nor address.
+fn plain(count: usize, byte: u8) -> Turn
+    ensures { λ r. ⌜ r ≡ plainOf count byte ⌝ }
+{
+    if byte == ESCAPE {
+        return Turn::Wait;
+    }
+    kept(count, byte)
+}
+
+// Behind an FF, at another byte than FD.
+fn partner(count: usize, byte: u8) -> Turn
+    ensures { λ r. ⌜ r ≡ partnerOf count byte ⌝ }
+{
+    if byte <= LAST_PARTNER {
+        return kept(count, ESCAPE - byte);
+    }
+    Turn::Tell(Event::Pair)
+}
+
+// At the last wire byte of a content byte.
+fn kept(count: usize, byte: u8) -> Turn
+    ensures { λ r. ⌜ r ≡ keptOf count byte ⌝ }
+{
+    if count < MOST_CONTENT {
+        return Turn::Keep(byte);
+    }
+    Turn::Tell(Event::Long)
+}
+
+// What the stop byte after this content tells.
+pub(crate) fn at_stop(check: Check, content: &[u8]) -> Verdict
+    ensures { λ r. ⌜ r ≡ verdict check (now (content .entry)) ⌝ }
+{
+    if content.len() < LEAST_CONTENT {
+        return Verdict {
+            event: Event::Short,
+            length: 0,
+        };
+    }
+    let length = content.len() - check_length(check);
+    let event = if is_right(check, content) {
+        Event::Frame
+    } else {
+        Event::Check
+    };
+    Verdict { event, length }
+}

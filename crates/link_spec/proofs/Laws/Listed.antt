@@ -1,0 +1,135 @@
+-- What crew and desk ask of a listing: every frame that a writer wrote is listed wherever it stands, and every listed frame is byte for
+-- byte the image of what its content says.
+-- Assumes nothing.
+use mathlib.Core.Path.{_≡_, refl, sym, ap, subst, subst⁻¹, _∙_}
+use mathlib.Core.Bool.{Bool, true, false}
+use mathlib.Core.List.{List, [], _∷_, _++_, List·Memᴰ}
+use Prim.Native.Nat.{ℕ, _+_, _≤_}
+use native.Mathlib.Omega.{arith}
+use lib.ListN.{length, take, drop}
+use lib.Seq.{take-append-seam}
+use Rattle.ground.specs.declared.refusal.Counted.{Counted}
+use Rattle.ground.specs.Refusals.{answered}
+use Rattle.checks.specs.declared.kind.Check.the-variants.{Fcs, Sum}
+use Rattle.checks.specs.Check.{withCheck}
+use Rattle.checks.proofs.Laws.Check.{length-withCheck}
+use Rattle.wire_spec.specs.Limits.{mostContent}
+use Rattle.wire_spec.specs.Image.{image}
+use Rattle.wire_spec.specs.Writing.{After, after}
+use Rattle.link_spec.specs.declared.station.Line.{Line}
+use Rattle.link_spec.specs.declared.station.Line.the-variants.{Point, Addressed}
+use Rattle.link_spec.specs.declared.receiver.Receiver.{Receiver}
+use Rattle.link_spec.specs.Limits.{leastContent, mostData}
+use Rattle.link_spec.specs.Address.{isNever, takes}
+use Rattle.link_spec.specs.Line.{checked, hasStation, Taken}
+use Rattle.link_spec.specs.Frame.{pointContent, addressedContent}
+use Rattle.link_spec.specs.Writers.{written, pointWritten, addressedWritten, ByTable, tooLong, badAddress, noRoom, frame}
+use Rattle.link_spec.specs.Events.{FRAME}
+use Rattle.link_spec.specs.Hearing.{Told, toldAt, IsFresh, Hearing}
+use Rattle.link_spec.specs.Listing.{Fields, onPoint, onAddressed, IsImage}
+use Rattle.link_spec.proofs.Laws.Address.{takes-lt}
+use Rattle.link_spec.proofs.Laws.Frame.{length-point, length-addressed}
+use Rattle.link_spec.proofs.Laws.Writers.{by-table, point-writes, addressed-writes}
+use Rattle.link_spec.proofs.Laws.Fresh.{fresh-begins}
+use Rattle.link_spec.proofs.Laws.Demand.{hearing-lists}
+
+-- ---- the crew's side
+
+-- what a writer that refused nothing has written
+record Wrote («data» content : List ℕ) (w : After) : Type 0 where
+  fits : length «data» ≤ mostData
+  bytes : take (w .answer .count) (w .out) ≡ image content
+  counts : w .answer .count ≡ length (image content)
+
+table-wrote : {never : Bool} {«data» content out : List ℕ} {w : After} → ByTable never «data» content out w → w .answer .refusal ≡ 0
+    → Wrote «data» content w
+table-wrote (tooLong long) none = absurd (omega arith)
+table-wrote (badAddress fits bad) none = absurd (omega arith)
+table-wrote (noRoom fits good short) none = absurd (omega arith)
+table-wrote {content} {out} (frame fits good room) none =
+    record { fits = fits; bytes = take-append-seam (image content) (drop (length (image content)) out); counts = refl }
+
+wrote : (never : Bool) («data» content out : List ℕ) (r : Counted) {out′ : List ℕ} → after r out′ ≡ written never «data» content out
+    → answered r .refusal ≡ 0
+    → Wrote «data» content (after r out′)
+wrote never «data» content out r says none =
+    subst⁻¹ (Wrote «data» content) says
+    (table-wrote (by-table never «data» content out) (sym (ap (λ (a : After). a .answer .refusal) says) ∙ none))
+
+-- the image of a content with its check, put anywhere into any stream, is told there, and so is what a writer wrote
+module _ (line : Line) (front «data» before rest : List ℕ) (long : length (checked line front) ≡ leastContent + length «data»)
+    (taken : Taken line (checked line front)) {s : Receiver} {all : List Told} (fr : IsFresh line s) where
+  image-listed : length «data» ≤ mostData → let bytes = image (checked line front) in
+      Hearing (before ++ (bytes ++ rest)) s 0 all
+      → List·Memᴰ (toldAt (length before + length bytes) FRAME front) all
+  image-listed fits h =
+      hearing-lists fr h .each (length before + length (image (checked line front))) front
+      (record { before = before; after = rest; split = refl; ends = refl; least = omega arith; most = omega arith; address = taken })
+
+  wrote-listed : {w : After} → Wrote «data» (checked line front) w → Hearing (before ++ (take (w .answer .count) (w .out) ++ rest)) s 0 all
+      → List·Memᴰ (toldAt (length before + w .answer .count) FRAME front) all
+  wrote-listed w h =
+      rw (w .counts) (image-listed (w .fits) (subst (λ (l : List ℕ). Hearing (before ++ (l ++ rest)) s 0 all) (w .bytes) h))
+
+pub point-image-listed : (identifier command : ℕ) («data» before rest : List ℕ) {s : Receiver} {all : List Told}
+    → length «data» ≤ mostData
+    → IsFresh Point s
+    → let bytes = image (pointContent identifier command «data») in
+    Hearing (before ++ (bytes ++ rest)) s 0 all
+    → List·Memᴰ (toldAt (length before + length bytes) FRAME (identifier ∷ command ∷ «data»)) all
+unfolding pointContent
+point-image-listed identifier command «data» before rest fits fr =
+    image-listed Point (identifier ∷ command ∷ «data») «data» before rest (length-point identifier command «data») tt fr fits
+
+-- every image that a writer wrote, put anywhere into any stream, is listed there with what was written
+pub point-listed : (r : Counted) (identifier command : ℕ) («data» out out′ before rest : List ℕ) {s : Receiver} {all : List Told}
+    → after r out′ ≡ pointWritten identifier command «data» out
+    → answered r .refusal ≡ 0
+    → IsFresh Point s
+    → Hearing (before ++ (take (r .count) out′ ++ rest)) s 0 all
+    → List·Memᴰ (toldAt (length before + r .count) FRAME (identifier ∷ command ∷ «data»)) all
+unfolding pointWritten pointContent
+point-listed r identifier command «data» out out′ before rest says none fr =
+    wrote-listed Point (identifier ∷ command ∷ «data») «data» before rest (length-point identifier command «data») tt fr
+    (wrote false «data» (pointContent identifier command «data») out r says none)
+
+pub addressed-listed : (r : Counted) (station address identifier command : ℕ)
+    («data» out out′ before rest : List ℕ) {s : Receiver} {all : List Told}
+    → after r out′ ≡ addressedWritten address identifier command «data» out
+    → answered r .refusal ≡ 0
+    → takes station address ≡ true
+    → IsFresh (Addressed station) s
+    → Hearing (before ++ (take (r .count) out′ ++ rest)) s 0 all
+    → List·Memᴰ (toldAt (length before + r .count) FRAME (address ∷ identifier ∷ command ∷ «data»)) all
+unfolding addressedWritten addressedContent withCheck
+addressed-listed r station address identifier command «data» out out′ before rest says none taken fr =
+    wrote-listed (Addressed station) (address ∷ identifier ∷ command ∷ «data») «data» before rest
+    (length-addressed address identifier command «data») taken fr
+    (wrote (isNever address) «data» (addressedContent address identifier command «data») out r says none)
+
+-- ---- the desk's side
+
+-- a content of 4 to 64 bytes has all that its line's frames have, and the writer writes it
+fields : (line : Line) → hasStation line ≡ true → (front : List ℕ) → leastContent ≤ length (checked line front)
+    → length (checked line front) ≤ mostContent → Taken line (checked line front)
+    → Fields line front (checked line front)
+unfolding withCheck pointContent addressedContent
+fields Point good [] least most taken = absurd (omega (arith, length-withCheck Fcs []))
+fields Point good (a ∷ []) least most taken = absurd (omega (arith, length-withCheck Fcs (a ∷ [])))
+fields Point good (identifier ∷ command ∷ «data») least most taken =
+    onPoint identifier command «data»
+    (λ out room. point-writes identifier command «data» out (omega (arith, length-point identifier command «data»)) room)
+fields (Addressed station) good [] least most taken = absurd (omega (arith, length-withCheck Sum []))
+fields (Addressed station) good (a ∷ []) least most taken = absurd (omega (arith, length-withCheck Sum (a ∷ [])))
+fields (Addressed station) good (a ∷ b ∷ []) least most taken = absurd (omega (arith, length-withCheck Sum (a ∷ b ∷ [])))
+fields (Addressed station) good (address ∷ identifier ∷ command ∷ «data») least most taken =
+    onAddressed address identifier command «data» taken
+    (λ out room. addressed-writes address identifier command «data» out (omega (arith, takes-lt station address good taken))
+    (omega (arith, length-addressed address identifier command «data»)) room)
+
+-- every listed frame is the image that the writer writes of what it lists, byte for byte
+pub listed-image : {line : Line} {s : Receiver} {stream : List ℕ} {all : List Told} → IsFresh line s → Hearing stream s 0 all
+    → (place : ℕ) (front : List ℕ) → List·Memᴰ (toldAt place FRAME front) all → IsImage line stream place front
+listed-image {line} fr h place front m =
+    let s = hearing-lists fr h .only place front m in
+    record { stands = s; fields = fields line (fresh-begins fr .good) front (s .least) (s .most) (s .address) }

@@ -1,0 +1,227 @@
+-- Laws of one call of a receiver: its refusals, what it takes and what it carries, and how its loop goes.
+-- Assumes nothing.
+use mathlib.Core.Path.{_≡_, refl, sym, subst⁻¹, _∙_}
+use mathlib.Core.Bool.{Bool, true, false, cond, not, or-true, true≢false, false≢true}
+use mathlib.Core.List.{List, [], _∷_}
+use Prim.Native.Nat.{ℕ, _+_, _≤_, _<_, zero-le}
+use native.Mathlib.Omega.{arith}
+use lib.Dec.{ltb}
+use lib.ListN.{length, drop, getD, length-take, drop-of-length-le}
+use borrow.Author.Tests.{lt-ltb, le-ltb, ltb-false}
+use Rattle.ground.specs.declared.refusal.Refusal.the-variants.{None, BadState}
+use Rattle.ground.specs.Refusals.{number, Keeps}
+use Rattle.ground.proofs.Laws.Choice.{cond-elim, by-test, or-none}
+use Rattle.ground.proofs.Laws.Lists.{drop-next}
+use Rattle.checks.specs.declared.kind.Check.{Check}
+use Rattle.wire_spec.specs.Limits.{mostContent}
+use Rattle.link_spec.specs.declared.event.Verdict.{Verdict}
+use Rattle.link_spec.specs.declared.receiver.Turn.{Turn}
+use Rattle.link_spec.specs.declared.receiver.Turn.the-variants.{Rest, Begin, Wait, Keep, Stop, Tell}
+use Rattle.link_spec.specs.declared.receiver.Receiver.{Receiver}
+use Rattle.link_spec.specs.declared.receiver.Heard.{Heard}
+use Rattle.link_spec.specs.Line.{checkOn, hasStation}
+use Rattle.link_spec.specs.Events.{NONE, named, happened, silent, verdict}
+use Rattle.link_spec.specs.Receiving.{soFar, turnAt, moved, hasEvent, outcome, outcomeAt, answering, heard, badState, refusedState, Said, saying, received}
+use Rattle.link_spec.proofs.Laws.Turning.{Sound}
+use Rattle.link_spec.proofs.Laws.Events.{by-stop}
+use Rattle.link_spec.proofs.Laws.Fit.{outcome-length, Leaves, leaves-all, leaves-then, sound-at, leaves-at, Fit, fit-moved}
+
+-- ---- the piece byte by byte
+
+-- what holds at the piece's end and at an event, and goes from each byte with no event to the bytes before, holds of what was heard
+module _ (P : ℕ → Receiver → List ℕ → Said → Type 0)
+    (out : (taken : ℕ) (s : Receiver) → P taken s [] (answering s silent taken))
+    (event : (taken : ℕ) (s : Receiver) (b : ℕ) (bs : List ℕ) → hasEvent (turnAt s b) ≡ true
+    → P taken s (b ∷ bs) (answering (moved s (turnAt s b)) (outcomeAt s (turnAt s b)) (taken + 1)))
+    (on : (taken : ℕ) (s : Receiver) (b : ℕ) (bs : List ℕ) (said : Said) → hasEvent (turnAt s b) ≡ false
+    → P (taken + 1) (moved s (turnAt s b)) bs said → P taken s (b ∷ bs) said) where
+  pub heard-elim : (piece : List ℕ) (taken : ℕ) (s : Receiver) → P taken s piece (heard taken s piece)
+  unfolding heard
+  heard-elim [] taken s = out taken s
+  heard-elim (b ∷ bs) taken s =
+      let t = turnAt s b in
+      let rest = heard-elim bs (taken + 1) (moved s t) in
+      cond-elim (P taken s (b ∷ bs)) (hasEvent t) (event taken s b bs) (λ n. on taken s b bs (heard (taken + 1) (moved s t) bs) n rest)
+
+-- ---- row 4 of the refusal table: when, and else the piece is heard
+
+module _ (s : Receiver) (piece : List ℕ) where
+  pub refuses-count : mostContent < s .count → received s piece ≡ refusedState s
+  unfolding received
+  refuses-count over = rw (lt-ltb mostContent (s .count) over)
+
+  pub refuses-station : hasStation (s .line) ≡ false → received s piece ≡ refusedState s
+  unfolding received
+  refuses-station bad = rw (bad, or-true)
+
+  pub refuses-bad : badState s ≡ true → received s piece ≡ refusedState s
+  unfolding received
+  refuses-bad bad = rw bad
+
+  pub hears : badState s ≡ false → received s piece ≡ heard 0 s piece
+  unfolding received
+  hears good = rw good
+
+  pub hears-piece : s .count ≤ mostContent → hasStation (s .line) ≡ true → received s piece ≡ heard 0 s piece
+  hears-piece within good = hears (rw (le-ltb mostContent (s .count) within, good))
+
+  -- and only then
+  pub refused-only : received s piece .refusal ≡ cond (badState s) (number BadState) 0
+  unfolding received
+  refused-only =
+      by-test (λ (t : Bool). cond t (refusedState s) (heard 0 s piece) .refusal ≡ cond t (number BadState) 0) (badState s) (λ bad. refl)
+      (λ good. heard-elim (λ (n : ℕ) (r : Receiver) (p : List ℕ) (said : Said). said .refusal ≡ 0) (λ n r. refl) (λ n r b bs e. refl)
+      (λ n r b bs said e h. h) piece 0 s)
+
+-- a receiver that no call refuses has no more content than there is place for
+pub good-count : (s : Receiver) → badState s ≡ false → s .count ≤ mostContent
+good-count s good = ltb-false mostContent (s .count) (or-none (ltb mostContent (s .count)) (not (hasStation (s .line))) good .0)
+
+-- a refused call leaves the receiver as before
+pub received-keeps : (s : Receiver) (piece : List ℕ) → Keeps (received s piece .refusal) s (received s piece .receiver)
+unfolding received
+received-keeps s piece =
+    by-test (λ (t : Bool). cond t (refusedState s) (heard 0 s piece) .refusal ≡ cond t (number BadState) 0
+    → Keeps (cond t (refusedState s) (heard 0 s piece) .refusal) s (cond t (refusedState s) (heard 0 s piece) .receiver)) (badState s)
+    (λ bad says refused. refl) (λ good says refused. absurd (refused says)) (refused-only s piece)
+
+-- every call has a result
+answer : Receiver → Verdict → ℕ → Heard
+answer s v taken = record { refusal = None; receiver = s; event = v .event; content = s .content; length = v .length; taken = taken }
+
+heard-answers : (piece : List ℕ) (taken : ℕ) (s : Receiver) → (r : Heard) × (saying r ≡ heard taken s piece)
+unfolding answer
+heard-answers =
+    heard-elim (λ (taken : ℕ) (s : Receiver) (piece : List ℕ) (said : Said). (r : Heard) × (saying r ≡ said))
+    (λ taken s. (answer s silent taken, refl))
+    (λ taken s b bs y. (answer (moved s (turnAt s b)) (outcomeAt s (turnAt s b)) (taken + 1), refl))
+    (λ taken s b bs said n r. r)
+
+pub received-answers : (s : Receiver) (piece : List ℕ) → (r : Heard) × (saying r ≡ received s piece)
+unfolding received
+received-answers s piece =
+    cond-elim (λ (said : Said). (r : Heard) × (saying r ≡ said)) (badState s)
+    (λ bad. (record { refusal = BadState; receiver = s; event = silent .event; content = s .content; length = 0; taken = 0 }, refl))
+    (λ good. heard-answers piece 0 s)
+
+-- an empty piece changes nothing
+pub empty-piece : (s : Receiver) → received s [] .receiver ≡ s × received s [] .event ≡ NONE × received s [] .taken ≡ 0
+unfolding received heard
+empty-piece s =
+    cond-elim (λ (said : Said). said .receiver ≡ s × said .event ≡ NONE × said .taken ≡ 0) (badState s) (λ t. (refl, refl, refl))
+    (λ f. (refl, refl, refl))
+
+-- ---- what a call takes
+
+-- a turn with an event tells something
+verdict-happens : (check : Check) (k : List ℕ) → happened (named (verdict check k .event)) ≡ true
+verdict-happens check k =
+    by-stop check k (λ (v : Verdict). happened (named (v .event)) ≡ true) (λ few. refl) (λ least w. refl) (λ least r. refl)
+
+turn-happens : (check : Check) (k : List ℕ) (count : ℕ) (t : Turn) → Sound count t → hasEvent t ≡ true
+    → happened (named (outcome check k t .event)) ≡ true
+unfolding outcome
+turn-happens check k count Rest sound y = absurd (false≢true y)
+turn-happens check k count Begin sound y = absurd (false≢true y)
+turn-happens check k count Wait sound y = absurd (false≢true y)
+turn-happens check k count (Keep b) sound y = absurd (false≢true y)
+turn-happens check k count Stop sound y = verdict-happens check k
+turn-happens check k count (Tell why) sound y = sound
+
+pub event-happens : (s : Receiver) (b : ℕ) → hasEvent (turnAt s b) ≡ true → happened (named (outcomeAt s (turnAt s b) .event)) ≡ true
+event-happens s b = turn-happens (checkOn (s .line)) (soFar s) (s .count) (turnAt s b) (sound-at s b)
+
+-- no byte back, none behind the piece, at least one of a piece that has one, and all where nothing is told
+pub record Takes (taken : ℕ) (piece : List ℕ) (said : Said) : Type 0 where
+  pub least : taken ≤ said .taken
+  pub most : said .taken ≤ taken + length piece
+  pub some : 0 < length piece → taken < said .taken
+  pub all : happened (said .event) ≡ false → said .taken ≡ taken + length piece
+
+heard-takes : (piece : List ℕ) (taken : ℕ) (s : Receiver) → Takes taken piece (heard taken s piece)
+heard-takes =
+    heard-elim (λ (taken : ℕ) (s : Receiver) (piece : List ℕ) (said : Said). Takes taken piece said)
+    (λ taken s. record { least = omega arith; most = omega arith; some = λ h. absurd (omega arith); all = λ q. omega arith })
+    (λ taken s b bs y. record {
+      least = omega arith;
+      most = omega arith;
+      some = λ h. omega arith;
+      all = λ q. absurd (true≢false (sym (event-happens s b y) ∙ q));
+    })
+    (λ taken s b bs said n r. record {
+      least = omega (arith, r .least);
+      most = omega (arith, r .most);
+      some = λ h. omega (arith, r .least);
+      all = λ q. omega (arith, r .all q);
+    })
+
+-- of a call that is not refused
+pub received-takes : (s : Receiver) (piece : List ℕ) → badState s ≡ false → Takes 0 piece (received s piece)
+received-takes s piece good = rw (hears s piece good) (heard-takes piece 0 s)
+
+pub takes-one : (s : Receiver) → badState s ≡ false → (b : ℕ) → received s (b ∷ []) .taken ≡ 1
+takes-one s good b = let t = received-takes s (b ∷ []) good in omega (arith, t .most, t .some (omega arith))
+
+-- ---- what it leaves and carries
+
+-- a receiver that is not refused stays so, so after a fresh one no call is refused
+record Stays (s : Receiver) (said : Said) : Type 0 where
+  leaves : Leaves s (said .receiver)
+  carries : said .length ≤ mostContent
+
+heard-stays : (piece : List ℕ) (taken : ℕ) (s : Receiver) → s .count ≤ mostContent → Stays s (heard taken s piece)
+heard-stays =
+    heard-elim (λ (taken : ℕ) (s : Receiver) (piece : List ℕ) (said : Said). s .count ≤ mostContent → Stays s said)
+    (λ taken s within. record { leaves = leaves-all s; carries = zero-le })
+    (λ taken s b bs y within. record {
+      leaves = leaves-at s b;
+      carries = omega (arith, outcome-length (checkOn (s .line)) (soFar s) (turnAt s b), length-take (s .count) (s .content));
+    })
+    (λ taken s b bs said n h within. let r = h (leaves-at s b .count within) in
+    record { leaves = leaves-then (leaves-at s b) (r .leaves); carries = r .carries })
+
+pub stays-good : (s : Receiver) (piece : List ℕ) → badState s ≡ false → badState (received s piece .receiver) ≡ false
+stays-good s piece good =
+    let parts = or-none (ltb mostContent (s .count)) (not (hasStation (s .line))) good in
+    let within = ltb-false mostContent (s .count) (parts .0) in
+    let l = heard-stays piece 0 s within .leaves in
+    rw (hears s piece good, le-ltb mostContent (heard 0 s piece .receiver .count) (l .count within), l .line) (parts .1)
+
+-- what an event carries lies within the answer's content
+pub length-within : (s : Receiver) (piece : List ℕ) → received s piece .length ≤ mostContent
+unfolding received
+length-within s piece =
+    cond-elim (λ (said : Said). said .length ≤ mostContent) (badState s) (λ t. zero-le)
+    (λ f. heard-stays piece 0 s
+    (ltb-false mostContent (s .count) (or-none (ltb mostContent (s .count)) (not (hasStation (s .line))) f .0)) .carries)
+
+-- ---- how the loop goes
+
+-- Some bytes were taken, and the receiver is now this one: what is left of the piece gives what the whole piece gave from the first
+-- receiver on.
+pub record Going (piece : List ℕ) (first : Receiver) (taken : ℕ) (s : Receiver) : Type 0 where
+  pub part : taken ≤ length piece
+  pub fit : Fit (first .line) s
+  pub same : heard taken s (drop taken piece) ≡ heard 0 first piece
+
+module _ {piece : List ℕ} {first : Receiver} {taken : ℕ} {s : Receiver} (going : Going piece first taken s) where
+  -- at the piece's end
+  pub runs-out : length piece ≤ taken → answering s silent taken ≡ heard 0 first piece
+  unfolding heard
+  runs-out end = rw (drop-of-length-le piece end) at (going .same)
+
+  module _ {t : Turn} (more : taken < length piece) (is : t ≡ turnAt s (getD piece taken 0)) where
+    -- a byte with no event
+    pub next-byte : hasEvent t ≡ false → Going piece first (taken + 1) (moved s t)
+    unfolding heard
+    next-byte none =
+        record {
+          part = omega arith;
+          fit = fit-moved (going .fit) t (subst⁻¹ (Sound (s .count)) is (sound-at s (getD piece taken 0)));
+          same = rw (drop-next piece taken more, ← is, none) at (going .same);
+        }
+
+    -- the byte of an event
+    pub breaks-off : hasEvent t ≡ true → answering (moved s t) (outcomeAt s t) (taken + 1) ≡ heard 0 first piece
+    unfolding heard
+    breaks-off one = rw (drop-next piece taken more, ← is, one) at (going .same)

@@ -1,0 +1,43 @@
+-- What the frame writers answer and leave in the buffer lent to them, for every input.
+-- 01, Layout of a frame, the last paragraph, and Refusal numbers. Assumes nothing.
+use Prim.Native.Nat.{ℕ, _≤_, _<_}
+use mathlib.Core.Path.{_≡_}
+use mathlib.Core.Bool.{Bool, true, false, cond}
+use mathlib.Core.List.{List}
+use lib.Dec.{ltb}
+use lib.ListN.{length}
+use Rattle.ground.specs.declared.refusal.Refusal.the-variants.{NoRoom, TooLong, BadAddress}
+use Rattle.wire_spec.specs.Image.{image}
+use Rattle.wire_spec.specs.Writing.{After, refusing, putting, imageWritten}
+use Rattle.link_spec.specs.Limits.{mostData}
+use Rattle.link_spec.specs.Address.{isNever}
+use Rattle.link_spec.specs.Frame.{pointContent, addressedContent}
+
+-- 01, Refusal numbers, rows 2 and 3, and 'Order': writer 2, 3, 1; then the image
+unfoldable pub written : Bool → List ℕ → List ℕ → List ℕ → After
+written never «data» content out =
+    cond (ltb mostData (length «data»)) (refusing TooLong out)
+    (cond never (refusing BadAddress out) (imageWritten content out))
+
+-- a point frame has no address to refuse
+unfoldable pub pointWritten : ℕ → ℕ → List ℕ → List ℕ → After
+pointWritten identifier command «data» out = written false «data» (pointContent identifier command «data») out
+
+-- an addressed frame is refused the addresses that are never one
+unfoldable pub addressedWritten : ℕ → ℕ → ℕ → List ℕ → List ℕ → After
+addressedWritten address identifier command «data» out =
+    written (isNever address) «data» (addressedContent address identifier command «data») out
+
+-- The writer's rows of the refusal table, and the frame where no row applies. `Laws.Writers` proves that `written` answers by them,
+-- and that they leave it no other answer.
+pub data ByTable (never : Bool) («data» content out : List ℕ) : After → Type 0 where
+  tooLong : mostData < length «data» → ByTable never «data» content out (refusing TooLong out)
+  badAddress : length «data» ≤ mostData → never ≡ true → ByTable never «data» content out (refusing BadAddress out)
+  noRoom : length «data» ≤ mostData
+      → never ≡ false
+      → length out < length (image content)
+      → ByTable never «data» content out (refusing NoRoom out)
+  frame : length «data» ≤ mostData
+      → never ≡ false
+      → length (image content) ≤ length out
+      → ByTable never «data» content out (putting content out)

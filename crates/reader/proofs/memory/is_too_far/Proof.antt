@@ -1,0 +1,20 @@
+-- `memory::is_too_far` meets its contract.
+-- Assumes nothing.
+use borrow.Author.Needs.{needs}
+use Rattle.reader.proofs.memory.is_too_far.Statement.{statement}
+use Rattle.reader.proofs.memory.is_too_far.Tie as tie
+
+enum-told : tie.Need-enum-told
+enum-told c = search needs
+
+enum-known-memory : tie.Need-enum-known-memory
+enum-known-memory c = search needs
+
+returns : tie.Need-returns
+returns c = search needs
+
+returns-2 : tie.Need-returns-2
+returns-2 c = simp (c .before .memory .given .1)
+
+pub is-too-far-spec : {M : Type 1} → statement M
+is-too-far-spec = tie.close (tie.spec enum-told enum-known-memory returns returns-2)

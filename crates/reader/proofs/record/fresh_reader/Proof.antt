@@ -1,0 +1,14 @@
+-- `record::fresh_reader` meets its contract.
+-- Assumes nothing.
+use borrow.Author.Needs.{needs}
+use Rattle.reader.proofs.record.fresh_reader.Statement.{statement}
+use Rattle.reader.proofs.record.fresh_reader.Tie as tie
+
+fresh-parameters-requires : tie.Need-fresh-parameters-requires
+fresh-parameters-requires c κs = search needs
+
+returns : tie.Need-returns
+returns c = simp (c .fresh-parameters .ensures)
+
+pub fresh-reader-spec : {M : Type 1} → statement M
+fresh-reader-spec = tie.close (tie.spec fresh-parameters-requires returns)

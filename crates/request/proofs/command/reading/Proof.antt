@@ -1,0 +1,46 @@
+-- `command::reading` meets its contract.
+-- Assumes nothing.
+use mathlib.Core.Path.{sym, _∙_}
+use borrow.Author.Needs.{needs}
+use Rattle.request_spec.proofs.Laws.Acceptance.{reading-other, reading-one}
+use Rattle.request.proofs.command.reading.Statement.{statement}
+use Rattle.request.proofs.command.reading.Tie as tie
+
+returns : tie.Need-returns
+returns c = reading-other (c .before .before .args .«data» .now) (c .if1 .taken)
+
+shared-slice-read-with-code : tie.Need-shared-slice-read-with-code
+shared-slice-read-with-code c = search needs
+
+with-code-requires : tie.Need-with-code-requires
+with-code-requires c κs = search needs
+
+enum-known-coded : tie.Need-enum-known-coded
+enum-known-coded c = search needs
+
+enum-told : tie.Need-enum-told
+enum-told c = search needs
+
+returns-2 : tie.Need-returns-2
+returns-2 c =
+    let d = c .before .before .before in
+    reading-one (d .before .before .before .before .args .«data» .now) (d .before .before .if1 .left)
+    (sym (d .with-code .ensures) ∙ c .before .coded .given .1)
+
+returns-3 : tie.Need-returns-3
+returns-3 c =
+    let d = c .before .before in
+    reading-one (d .before .before .before .before .args .«data» .now) (d .before .before .if1 .left)
+    (sym (d .with-code .ensures) ∙ c .enum-told .given .1)
+
+pub reading-spec : {M : Type 1} → statement M
+reading-spec =
+    tie.close
+    (tie.spec
+    returns
+    shared-slice-read-with-code
+    with-code-requires
+    enum-known-coded
+    enum-told
+    returns-2
+    returns-3)

@@ -1,0 +1,75 @@
+-- `command::writing` meets its contract.
+-- Assumes nothing.
+use mathlib.Core.Path.{sym, ap, _∙_}
+use borrow.Author.Needs.{needs}
+use Rattle.ground.proofs.Laws.Lists.{take-rest}
+use Rattle.request_spec.specs.Parameters.{takes}
+use Rattle.request_spec.proofs.Laws.Acceptance.{writing-none, writing-some, writing-value}
+use Rattle.request.proofs.command.writing.Statement.{statement}
+use Rattle.request.proofs.command.writing.Tie as tie
+
+returns : tie.Need-returns
+returns c = writing-none (c .before .before .args .«data» .now) (c .if1 .taken)
+
+shared-slice-read-with-code : tie.Need-shared-slice-read-with-code
+shared-slice-read-with-code c = search needs
+
+with-code-requires : tie.Need-with-code-requires
+with-code-requires c κs = search needs
+
+enum-known-coded : tie.Need-enum-known-coded
+enum-known-coded c = search needs
+
+enum-told : tie.Need-enum-told
+enum-told c = search needs
+
+returns-2 : tie.Need-returns-2
+returns-2 c =
+    let d = c .before .before in
+    writing-some (d .before .before .before .before .args .«data» .now) (d .before .before .if1 .left)
+    (sym (d .with-code .ensures) ∙ c .enum-told .given .1)
+
+sub-takes : tie.Need-sub-takes
+sub-takes c = search needs
+
+part-takes-start : tie.Need-part-takes-start
+part-takes-start c = search needs
+
+part-takes-end : tie.Need-part-takes-end
+part-takes-end c = search needs
+
+takes-requires : tie.Need-takes-requires
+takes-requires c κs = search needs
+
+returns-3 : tie.Need-returns-3
+returns-3 c =
+    let d = c .before .before .before .before .before .before in
+    let «data» = d .before .before .before .before .args .«data» .now in
+    let known = c .before .before .before .before .coded .given in
+    writing-value «data» (d .before .before .if1 .left) (sym (d .with-code .ensures) ∙ known .1)
+    (ap (takes (known .0 .0)) (sym (take-rest «data» 1)) ∙ sym (c .before .takes .ensures) ∙ c .if2 .taken)
+
+returns-4 : tie.Need-returns-4
+returns-4 c =
+    let d = c .before .before .before .before .before .before in
+    let «data» = d .before .before .before .before .args .«data» .now in
+    let known = c .before .before .before .before .coded .given in
+    writing-value «data» (d .before .before .if1 .left) (sym (d .with-code .ensures) ∙ known .1)
+    (ap (takes (known .0 .0)) (sym (take-rest «data» 1)) ∙ sym (c .before .takes .ensures) ∙ c .if2 .left)
+
+pub writing-spec : {M : Type 1} → statement M
+writing-spec =
+    tie.close
+    (tie.spec
+    returns
+    shared-slice-read-with-code
+    with-code-requires
+    enum-known-coded
+    enum-told
+    returns-2
+    sub-takes
+    part-takes-start
+    part-takes-end
+    takes-requires
+    returns-3
+    returns-4)

@@ -1,0 +1,59 @@
+-- Laws of the parameters.
+-- Assumes nothing.
+use mathlib.Core.Path.{_≡_, refl, sym, ap, _∙_}
+use mathlib.Core.Bool.{true, false, true≢false, and-eq-true-iff}
+use mathlib.Core.List.{List}
+use Prim.Native.Nat.{ℕ, _≤_, _<_}
+use native.Mathlib.Omega.{arith}
+use lib.Dec.{eqb}
+use lib.ListN.{length}
+use borrow.Author.Tests.{eqb-true, eq-eqb, ne-eqb}
+use Rattle.request_spec.specs.declared.parameter.Parameter.{Parameter}
+use Rattle.request_spec.specs.declared.parameter.Parameter.the-variants.{Speed, Settings, Cell}
+use Rattle.request_spec.specs.Parameters.{parameterCode, lengthOf, within, takes}
+
+-- a value has 1 to 8 bytes
+pub lengthOf-least : (p : Parameter) → 0 < lengthOf p
+lengthOf-least Speed = omega arith
+lengthOf-least Settings = omega arith
+lengthOf-least Cell = omega arith
+
+pub lengthOf-most : (p : Parameter) → lengthOf p ≤ 8
+lengthOf-most Speed = omega arith
+lengthOf-most Settings = omega arith
+lengthOf-most Cell = omega arith
+
+-- a value that a parameter takes has its length, and for the speed is 3..10
+pub takes-length : (p : Parameter) (value : List ℕ) → takes p value ≡ true → length value ≡ lengthOf p
+unfolding takes
+takes-length p value taken =
+    eqb-true (length value) (lengthOf p) (and-eq-true-iff (eqb (length value) (lengthOf p)) (within p value) .0 taken .0)
+
+pub takes-within : (p : Parameter) (value : List ℕ) → takes p value ≡ true → within p value ≡ true
+unfolding takes
+takes-within p value taken = and-eq-true-iff (eqb (length value) (lengthOf p)) (within p value) .0 taken .1
+
+pub value-length : {p q : Parameter} (value : List ℕ) → p ≡ q → takes p value ≡ true → length value ≡ lengthOf q
+value-length {p} value same taken = takes-length p value taken ∙ ap lengthOf same
+
+-- the length is tried first
+pub takes-none : {n : ℕ} (p : Parameter) (value : List ℕ) → n ≡ lengthOf p → (length value ≡ n → ⊥) → false ≡ takes p value
+unfolding takes
+takes-none p value long other = rw (ne-eqb (length value) (lengthOf p) (λ e. other (e ∙ sym long)))
+
+pub takes-some : {n : ℕ} {p q : Parameter} (value : List ℕ) → p ≡ q → n ≡ lengthOf p → length value ≡ n → within q value ≡ takes p value
+unfolding takes
+takes-some {p} value same long whole =
+    ap (λ (r : Parameter). within r value) (sym same) ∙ rw (eq-eqb (length value) (lengthOf p) (whole ∙ long))
+
+-- a code belongs to one parameter
+pub same-code : (p q : Parameter) → eqb (parameterCode p) (parameterCode q) ≡ true → p ≡ q
+same-code Speed Speed e = refl
+same-code Speed Settings e = absurd (true≢false (sym e))
+same-code Speed Cell e = absurd (true≢false (sym e))
+same-code Settings Speed e = absurd (true≢false (sym e))
+same-code Settings Settings e = refl
+same-code Settings Cell e = absurd (true≢false (sym e))
+same-code Cell Speed e = absurd (true≢false (sym e))
+same-code Cell Settings e = absurd (true≢false (sym e))
+same-code Cell Cell e = refl

@@ -1,0 +1,89 @@
+-- The writer of typed requests answers by the refusal table, and what it wrote is heard.
+-- Assumes nothing.
+use mathlib.Core.Path.{_≡_, refl, sym, ap, _∙_}
+use mathlib.Core.Bool.{false}
+use mathlib.Core.List.{List, _∷_, _++_, List·Memᴰ}
+use mathlib.Core.Logic.{_⊎_, inl, inr}
+use Prim.Native.Nat.{ℕ, _+_}
+use native.Mathlib.Omega.{arith}
+use lib.ListN.{length, take}
+use Rattle.ground.specs.declared.refusal.Refusal.the-variants.{BadRequest}
+use Rattle.ground.specs.declared.refusal.Counted.{Counted}
+use Rattle.ground.specs.Refusals.{answered, Keeps}
+use Rattle.ground.proofs.Laws.Choice.{cond-elim}
+use Rattle.wire_spec.specs.Writing.{After, after, refusing}
+use Rattle.wire_spec.proofs.Laws.Writing.{written-keeps}
+use Rattle.link_spec.specs.declared.station.Line.the-variants.{Point}
+use Rattle.link_spec.specs.declared.receiver.Receiver.{Receiver}
+use Rattle.link_spec.specs.Frame.{pointContent}
+use Rattle.link_spec.specs.Writers.{pointWritten, ByTable, tooLong, badAddress, noRoom, frame}
+use Rattle.link_spec.specs.Events.{FRAME}
+use Rattle.link_spec.specs.Hearing.{Told, toldAt, IsFresh, Hearing}
+use Rattle.link_spec.proofs.Laws.Writers.{point-goes-on, point-by-table}
+use Rattle.link_spec.proofs.Laws.Listed.{point-listed}
+use Rattle.request_spec.specs.declared.command.Command.{Command}
+use Rattle.request_spec.specs.declared.command.Acceptance.{Acceptance}
+use Rattle.request_spec.specs.declared.command.Acceptance.the-variants.{Accepted, Refused}
+use Rattle.request_spec.specs.Acceptance.{acceptance, isAccepted}
+use Rattle.request_spec.specs.Requesting.{requestWritten}
+use Rattle.request_spec.proofs.Laws.Acceptance.{accepts, accepted-short}
+
+-- a code with data is accepted or not
+either : (k : Acceptance) → (isAccepted k ≡ false) ⊎ ((command : Command) × (k ≡ Accepted command))
+either (Refused fault) = inl refl
+either (Accepted command) = inr (command, refl)
+
+module _ (identifier code : ℕ) («data» out : List ℕ) where
+  pub request-refused : isAccepted (acceptance code «data») ≡ false → requestWritten identifier code «data» out ≡ refusing BadRequest out
+  unfolding requestWritten
+  request-refused none = rw none
+
+  pub request-written : {command : Command} → acceptance code «data» ≡ Accepted command
+      → pointWritten identifier code «data» out ≡ requestWritten identifier code «data» out
+  unfolding requestWritten
+  request-written asked = rw asked (point-goes-on identifier code «data» out (accepted-short (accepts code «data» asked)))
+
+  -- a refused call leaves the buffer as before
+  pub request-keeps : Keeps (requestWritten identifier code «data» out .answer .refusal) out (requestWritten identifier code «data» out .out)
+  unfolding requestWritten
+  request-keeps =
+      cond-elim (λ (a : After). Keeps (a .answer .refusal) out (a .out)) (isAccepted (acceptance code «data»))
+      (λ asked. written-keeps (pointContent identifier code «data») out) (λ none refused. refl)
+
+  -- where the writer did not refuse, there is a command
+  pub written-asks : requestWritten identifier code «data» out .answer .refusal ≡ 0
+      → (command : Command) × (acceptance code «data» ≡ Accepted command)
+  written-asks done = of (either (acceptance code «data»))
+    where
+      of : (isAccepted (acceptance code «data») ≡ false) ⊎ ((command : Command) × (acceptance code «data» ≡ Accepted command))
+          → (command : Command) × (acceptance code «data» ≡ Accepted command)
+      of (inl bad) = absurd (omega (arith, sym (ap (λ (a : After). a .answer .refusal) (request-refused bad)) ∙ done))
+      of (inr asks) = asks
+
+  -- where it refused with 5, there is none
+  pub refused-asks : requestWritten identifier code «data» out .answer .refusal ≡ 5 → isAccepted (acceptance code «data») ≡ false
+  refused-asks bad = of (either (acceptance code «data»))
+    where
+      no-row : {w : After} → ByTable false «data» (pointContent identifier code «data») out w → w .answer .refusal ≡ 5 → ⊥
+      no-row (tooLong long) five = omega arith
+      no-row (badAddress fits never) five = omega arith
+      no-row (noRoom fits good short) five = omega arith
+      no-row (frame fits good room) five = omega arith
+
+      of : (isAccepted (acceptance code «data») ≡ false) ⊎ ((command : Command) × (acceptance code «data» ≡ Accepted command))
+          → isAccepted (acceptance code «data») ≡ false
+      of (inl none) = none
+      of (inr (command, asked)) =
+          absurd (no-row (point-by-table identifier code «data» out)
+          (ap (λ (a : After). a .answer .refusal) (request-written asked) ∙ bad))
+
+-- what the typed writer wrote, put anywhere into any stream, is heard whole
+pub request-heard : (r : Counted) (identifier code : ℕ) («data» out out′ before rest : List ℕ) {s : Receiver} {all : List Told}
+    → after r out′ ≡ requestWritten identifier code «data» out
+    → answered r .refusal ≡ 0
+    → IsFresh Point s
+    → Hearing (before ++ (take (r .count) out′ ++ rest)) s 0 all
+    → List·Memᴰ (toldAt (length before + r .count) FRAME (identifier ∷ code ∷ «data»)) all
+request-heard r identifier code «data» out out′ before rest says done fr hearing =
+    let asked = written-asks identifier code «data» out (sym (ap (λ (a : After). a .answer .refusal) says) ∙ done) .1 in
+    point-listed r identifier code «data» out out′ before rest (says ∙ sym (request-written identifier code «data» out asked)) done fr hearing

@@ -1,0 +1,165 @@
+-- What the master reads in a reply's content without check.
+-- 01, 'Master's side', and Refusal numbers, rows 5 to 9. Assumes nothing.
+use Prim.Native.Nat.{ℕ}
+use mathlib.Core.Path.{_≡_}
+use mathlib.Core.Bool.{Bool, true, false, cond, _&&_, _||_, not}
+use mathlib.Core.List.{List}
+use mathlib.Core.Option.{Option, none, some}
+use lib.Dec.{eqb, leb}
+use lib.ListN.{length, getD}
+use Rattle.ground.specs.declared.refusal.Refusal.{Refusal}
+use Rattle.ground.specs.declared.refusal.Refusal.the-variants.{BadRequest, WrongId, WrongCommand, WrongLength, WrongReason}
+use Rattle.ground.specs.Refusals.{number}
+use Rattle.request_spec.specs.declared.command.Command.{Command}
+use Rattle.request_spec.specs.declared.command.Command.the-variants.{Header, Write, Read, Card}
+use Rattle.request_spec.specs.declared.command.Acceptance.{Acceptance}
+use Rattle.request_spec.specs.declared.command.Acceptance.the-variants.{Accepted, Refused}
+use Rattle.request_spec.specs.declared.reply.Meaning.{Meaning}
+use Rattle.request_spec.specs.declared.reply.Meaning.the-variants as meaning
+use Rattle.request_spec.specs.declared.reply.Reading.{Reading}
+use Rattle.request_spec.specs.Limits.{headerLength}
+use Rattle.request_spec.specs.Parameters.{lengthOf}
+use Rattle.request_spec.specs.Cards.{isCode}
+use Rattle.request_spec.specs.Acceptance.{acceptance, isAccepted}
+use Rattle.request_spec.specs.Replies.{Reply, ACK, NACK, DATA, sign, identifierOf, commandOf, dataOf, ackByte}
+
+-- what each case means where the reply has this data; none where the call refused
+abbrev pub meant : List ℕ → Meaning → Option Reply
+meant «data» meaning.None = none
+meant «data» meaning.Ack = some ACK
+meant «data» (meaning.Nack n) = some (NACK n)
+meant «data» meaning.Data = some (DATA «data»)
+
+-- a call's result in the paper's numbers and words
+pub record Outcome : Type 0 where
+  pub refusal : ℕ
+  pub meaning : Option Reply
+
+abbrev pub telling : List ℕ → Reading → Outcome
+telling «data» r = record { refusal = number (r .refusal); meaning = meant «data» (r .meaning) }
+
+abbrev pub readingOf : Refusal → Meaning → Reading
+readingOf why meaning = record { refusal = why; meaning = meaning }
+
+abbrev pub refusing : Refusal → Outcome
+refusing why = record { refusal = number why; meaning = none }
+
+abbrev pub accepting : Reply → Outcome
+accepting reply = record { refusal = 0; meaning = some reply }
+
+-- ACK answers 01 only
+abbrev pub isWrite : Command → Bool
+isWrite Header = false
+isWrite (Write p) = true
+isWrite (Read p) = false
+isWrite (Card card) = false
+
+-- data answers the other codes only, with the lengths above (10 and 14: 1 to 8)
+abbrev pub isDue : Command → ℕ → Bool
+isDue Header n = eqb n headerLength
+isDue (Write p) n = false
+isDue (Read p) n = eqb n (lengthOf p)
+isDue (Card card) n = isCode card n
+
+-- row 8: data length not as above
+unfoldable pub dataRead : Command → List ℕ → Outcome
+dataRead command «data» = cond (isDue command (length «data»)) (accepting (DATA «data»)) (refusing WrongLength)
+
+-- NACK with number 1..6
+abbrev pub isNack : ℕ → Bool
+isNack reason = leb 1 reason && leb reason 6
+
+-- row 9: 2A byte not 55 or 1..6, or 55 where data was due
+unfoldable pub reasonRead : Command → ℕ → Outcome
+reasonRead command reason =
+    cond (eqb reason ackByte) (cond (isWrite command) (accepting ACK) (refusing WrongReason))
+    (cond (isNack reason) (accepting (NACK reason)) (refusing WrongReason))
+
+-- row 8: for 2A not one byte
+unfoldable pub signRead : Command → List ℕ → Outcome
+signRead command «data» = cond (eqb (length «data») 1) (reasonRead command (getD «data» 0 0)) (refusing WrongLength)
+
+-- that byte
+abbrev pub reason : List ℕ → ℕ
+reason reply = getD (dataOf reply) 0 0
+
+-- row 6: reply identifier differs, or the content is empty
+abbrev pub wrongId : ℕ → List ℕ → Bool
+wrongId identifier reply = eqb (length reply) 0 || not (eqb (identifierOf reply) identifier)
+
+abbrev pub isSign : List ℕ → Bool
+isSign reply = eqb (commandOf reply) sign
+
+-- row 7: command byte absent, or neither 2A nor the request's, or 01 echoed
+abbrev pub wrongCommand : ℕ → List ℕ → Bool
+wrongCommand code reply = eqb (length reply) 1 || not (isSign reply || eqb (commandOf reply) code && not (eqb code 0x01))
+
+-- 'Order': 6, 7, 8, 9
+unfoldable pub readAs : ℕ → ℕ → List ℕ → Command → Outcome
+readAs identifier code reply command =
+    cond (wrongId identifier reply) (refusing WrongId)
+    (cond (wrongCommand code reply) (refusing WrongCommand)
+    (cond (isSign reply) (signRead command (dataOf reply)) (dataRead command (dataOf reply))))
+
+-- and before them row 5: a request that step 4 or 5 would refuse
+abbrev pub readBy : ℕ → ℕ → List ℕ → Acceptance → Outcome
+readBy identifier code reply (Accepted command) = readAs identifier code reply command
+readBy identifier code reply (Refused fault) = refusing BadRequest
+
+unfoldable pub replyRead : ℕ → ℕ → List ℕ → List ℕ → Outcome
+replyRead identifier code «data» reply = readBy identifier code reply (acceptance code «data»)
+
+-- the request is this command, and no row up to 7 refuses the reply
+abbrev pub Heeded : ℕ → ℕ → List ℕ → List ℕ → Command → Type 0
+Heeded identifier code «data» reply command =
+    (acceptance code «data» ≡ Accepted command) × (wrongId identifier reply ≡ false) × (wrongCommand code reply ≡ false)
+
+-- and it is 2A with one byte
+abbrev pub Signed : ℕ → ℕ → List ℕ → List ℕ → Command → Type 0
+Signed identifier code «data» reply command =
+    Heeded identifier code «data» reply command × ((isSign reply ≡ true) × (eqb (length (dataOf reply)) 1 ≡ true))
+
+-- The master's rows of the refusal table, and the reply where no row applies. `Laws.Reading` proves that `replyRead` answers by them,
+-- and that they leave it no other answer.
+pub data ByTable (identifier code : ℕ) («data» reply : List ℕ) : Outcome → Type 0 where
+  request : isAccepted (acceptance code «data») ≡ false → ByTable identifier code «data» reply (refusing BadRequest)
+  -- reply identifier differs, or the content is empty
+  identity : {command : Command} → acceptance code «data» ≡ Accepted command
+      → wrongId identifier reply ≡ true
+      → ByTable identifier code «data» reply (refusing WrongId)
+  -- command byte absent, or neither 2A nor the request's, or 01 echoed
+  otherCommand : {command : Command} → acceptance code «data» ≡ Accepted command
+      → wrongId identifier reply ≡ false
+      → wrongCommand code reply ≡ true
+      → ByTable identifier code «data» reply (refusing WrongCommand)
+  -- for 2A not one byte; data length not as above
+  signLength : {command : Command} → Heeded identifier code «data» reply command
+      → isSign reply ≡ true
+      → eqb (length (dataOf reply)) 1 ≡ false
+      → ByTable identifier code «data» reply (refusing WrongLength)
+  dataLength : {command : Command} → Heeded identifier code «data» reply command
+      → isSign reply ≡ false
+      → isDue command (length (dataOf reply)) ≡ false
+      → ByTable identifier code «data» reply (refusing WrongLength)
+  -- 55 where data was due; 2A byte not 55 or 1..6
+  ackDue : {command : Command} → Signed identifier code «data» reply command
+      → eqb (reason reply) ackByte ≡ true
+      → isWrite command ≡ false
+      → ByTable identifier code «data» reply (refusing WrongReason)
+  noReason : {command : Command} → Signed identifier code «data» reply command
+      → eqb (reason reply) ackByte ≡ false
+      → isNack (reason reply) ≡ false
+      → ByTable identifier code «data» reply (refusing WrongReason)
+  -- ACK, NACK with number 1..6, or data
+  ack : {command : Command} → Signed identifier code «data» reply command
+      → eqb (reason reply) ackByte ≡ true
+      → isWrite command ≡ true
+      → ByTable identifier code «data» reply (accepting ACK)
+  nack : {command : Command} → Signed identifier code «data» reply command
+      → eqb (reason reply) ackByte ≡ false
+      → isNack (reason reply) ≡ true
+      → ByTable identifier code «data» reply (accepting (NACK (reason reply)))
+  bytes : {command : Command} → Heeded identifier code «data» reply command
+      → isSign reply ≡ false
+      → isDue command (length (dataOf reply)) ≡ true
+      → ByTable identifier code «data» reply (accepting (DATA (dataOf reply)))

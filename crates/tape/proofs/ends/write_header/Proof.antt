@@ -1,0 +1,23 @@
+-- `ends::write_header` meets its contract.
+-- Assumes nothing.
+use borrow.Author.Needs.{needs}
+use Rattle.text.specs.Ascii.{ascii}
+use Rattle.tape_spec.specs.Rows.{headerLine}
+use Rattle.tape.proofs.ends.write_header.Statement.{statement}
+use Rattle.tape.proofs.ends.write_header.Tie as tie
+
+slice-aggregate-put : tie.Need-slice-aggregate-put
+slice-aggregate-put c = search needs
+
+put-requires : tie.Need-put-requires
+put-requires c κs = search needs
+
+same-length : tie.Need-same-length
+same-length c = search needs
+
+returns : tie.Need-returns
+unfolding ascii headerLine
+returns c = c .before .before .put .ensures
+
+pub write-header-spec : {M : Type 1} → statement M
+write-header-spec = tie.close (tie.spec slice-aggregate-put put-requires same-length returns)

@@ -1,0 +1,127 @@
+-- `rows::put_heard`: no event has no row, FRAME shows the content that it carries, which lies within the array that came with it, and every
+-- other event shows none.
+-- Assumes nothing.
+use mathlib.Core.Path.{_≡_, refl, sym, ap, _∙_}
+use mathlib.Core.Logic.{inl, inr}
+use mathlib.Core.List.{List, [], _∷_}
+use Prim.Native.Nat.{ℕ, _≤_, zero-le}
+use native.Mathlib.Omega.{arith}
+use borrow.Author.Needs.{needs}
+use denote.Enum.Declared.{tagOf}
+use types.Run.{OneOf}
+use lib.ListN.{length-map, length-take}
+use lib.Seq.{length-take-le}
+use Rattle.ground.specs.Laying.{placed}
+use Rattle.ground.proofs.Laws.Laying.{placed-nil}
+use Rattle.link_spec.specs.declared.event.Event.{Event}
+use Rattle.link_spec.specs.declared.event.Event.the-variants.{None, Frame, Check, Short, Long, Pair, Addr}
+use Rattle.link_spec.specs.Events.{named, happened}
+use Rattle.link_spec.specs.Receiving.{saying}
+use Rattle.link_spec.proofs.event.Event as event
+use Rattle.tape_spec.specs.declared.tape.Side.{Side}
+use Rattle.tape_spec.specs.Rows.{line, nameOf, eventLine, carried}
+use Rattle.tape_spec.proofs.Laws.Rows.{no-line, frame-line}
+use Rattle.tape.proofs.rows.put_heard.Statement.{statement}
+use Rattle.tape.proofs.rows.put_heard.Tie as tie
+
+-- the arm of the other events
+abbrev Other : ℕ → Type 0
+Other k = OneOf (2 ∷ 3 ∷ 4 ∷ 5 ∷ 6 ∷ []) k
+
+late : (k : ℕ) → Other k → 2 ≤ k
+late k (inl e) = omega arith
+late k (inr (inl e)) = omega arith
+late k (inr (inr (inl e))) = omega arith
+late k (inr (inr (inr (inl e)))) = omega arith
+late k (inr (inr (inr (inr e)))) = omega arith
+
+others : (n : ℕ) (side : Side) (e : Event) (content : List ℕ) → Other (tagOf event.the-type e)
+    → line n side (nameOf (named e)) [] ≡ eventLine n side (named e) content
+unfolding nameOf eventLine
+others n side None content h = absurd (omega (arith, late 0 h))
+others n side Frame content h = absurd (omega (arith, late 1 h))
+others n side Check content h = refl
+others n side Short content h = refl
+others n side Long content h = refl
+others n side Pair content h = refl
+others n side Addr content h = refl
+
+enum-told : tie.Need-enum-told
+enum-told c = search needs
+
+enum-told-2 : tie.Need-enum-told-2
+enum-told-2 c = search needs
+
+array-share-prefix-content : tie.Need-array-share-prefix-content
+array-share-prefix-content c =
+    let e = c .before .before .before .before in
+    let n = simp length-map at (e .good .1 .1 .0 .1 .1 .1 .1 .1 .0 .1 .0 .1) in
+    omega (arith, e .pre)
+
+slice-aggregate-put-line : tie.Need-slice-aggregate-put-line
+slice-aggregate-put-line c = sym (length-take-le _ _ (array-share-prefix-content (c .before)))
+
+put-line-requires : tie.Need-put-line-requires
+put-line-requires c κs =
+    let e = c .before .before .before .before .before .before in
+    let h = e .args .heard in
+    (omega (arith, e .pre, length-take (h .length) (h .content)), omega (arith, e .pre))
+
+array-share-prefix-content-2 : tie.Need-array-share-prefix-content-2
+array-share-prefix-content-2 c = zero-le
+
+slice-aggregate-put-line-2 : tie.Need-slice-aggregate-put-line-2
+slice-aggregate-put-line-2 c = refl
+
+put-line-requires-2 : tie.Need-put-line-requires-2
+put-line-requires-2 c κs = search needs
+
+returns : tie.Need-returns
+returns c =
+    let a = c .before .before .before .before .args in
+    let quiet = ap (λ (e : Event). happened (named e)) (c .enum-told .given .1) in
+    sym (placed-nil (a .out .now) (a .at))
+    ∙ ap (λ (l : List ℕ). placed l (a .out .now) (a .at)) (sym (no-line (a .number) (a .side) (saying (a .heard)) quiet))
+
+same-length : tie.Need-same-length
+same-length c = search needs
+
+returns-2 : tie.Need-returns-2
+returns-2 c =
+    let a = c .before .before .before .before .before .before .before .before .before .args in
+    let content = carried (saying (a .heard)) in
+    let frame = c .before .before .before .before .before .enum-told2 .given .1 in
+    c .before .before .put-line .ensures
+    ∙ ap (λ (l : List ℕ). placed l (a .out .now) (a .at))
+    (ap (λ (e : Event). line (a .number) (a .side) (nameOf (named e)) content) frame
+    ∙ frame-line (a .number) (a .side) content
+    ∙ ap (λ (e : Event). eventLine (a .number) (a .side) (named e) content) (sym frame))
+
+same-length-2 : tie.Need-same-length-2
+same-length-2 c = search needs
+
+returns-3 : tie.Need-returns-3
+returns-3 c =
+    let m = c .before .before .before .before .before in
+    let a = m .before .before .before .args in
+    c .before .before .put-line2 .ensures
+    ∙ ap (λ (l : List ℕ). placed l (a .out .now) (a .at))
+    (others (a .number) (a .side) (a .heard .event) (carried (saying (a .heard))) (m .match .keys3))
+
+pub put-heard-spec : {M : Type 1} → statement M
+put-heard-spec =
+    tie.close
+    (tie.spec
+    enum-told
+    enum-told-2
+    array-share-prefix-content
+    slice-aggregate-put-line
+    put-line-requires
+    array-share-prefix-content-2
+    slice-aggregate-put-line-2
+    put-line-requires-2
+    returns
+    same-length
+    returns-2
+    same-length-2
+    returns-3)

@@ -1,0 +1,76 @@
+-- Records in a row on one line, heard together. It serves contracts of private functions. Assumes nothing.
+use Prim.Native.Nat.{ℕ, _+_, _*_, _-_, _≤_, _<_}
+use mathlib.Core.Path.{_≡_}
+use mathlib.Core.Bool.{cond}
+use mathlib.Core.List.{List, [], _∷_, _++_}
+use lib.Dec.{ltb}
+use lib.ListN.{length, take}
+use Rattle.ground.specs.Laying.{laid}
+use Rattle.link_spec.specs.declared.receiver.Receiver.{Receiver}
+use Rattle.link_spec.specs.Receiving.{received}
+use Rattle.tape_spec.specs.declared.tape.Side.{Side}
+use Rattle.tape_spec.specs.Limits.{leastRoom, mostRecords}
+use Rattle.tape_spec.specs.Rows.{brought}
+use Rattle.tape_spec.specs.Whole.{kindOf}
+use Rattle.tape.specs.declared.run.Ran.{Ran}
+
+-- not more than either of two numbers, and not zero unless one of them is
+pub record Least (a b r : ℕ) : Type 0 where
+  pub first : r ≤ a
+  pub second : r ≤ b
+  pub some : 0 < a → 0 < b → 0 < r
+
+-- whole records of one kind, with these bodies
+unfoldable pub laced : ℕ → List ℕ → List ℕ
+laced kind [] = []
+laced kind (b ∷ bs) = kind ∷ b ∷ laced kind bs
+
+-- a body and whole records of one kind behind it
+abbrev pub linked : ℕ → List ℕ → List ℕ
+linked kind [] = []
+linked kind (b ∷ bs) = b ∷ laced kind bs
+
+-- the bodies at a chunk's front, so many at most
+pub record Gathered (kind limit : ℕ) (chunk bodies : List ℕ) : Type 0 where
+  pub some : 1 ≤ length bodies
+  pub within : length bodies ≤ limit
+  pub front : take (2 * length bodies - 1) chunk ≡ linked kind bodies
+
+-- the receiver behind bodies, how many were heard, and the text that they brought
+pub record Run : Type 0 where
+  pub receiver : Receiver
+  pub count : ℕ
+  pub text : List ℕ
+
+-- none was heard
+abbrev pub resting : Receiver → Run
+resting s = record { receiver = s; count = 0; text = [] }
+
+-- one by one, from behind so many records on, while there is room for the longest line
+unfoldable pub running : ℕ → Side → ℕ → Receiver → List ℕ → Run
+running room side n s [] = resting s
+running room side n s (b ∷ bs) =
+    let said = received s (b ∷ []) in
+    let text = brought n side said in
+    let more = running (room - length text) side (n + 1) (said .receiver) bs in
+    cond (ltb room leastRoom) (resting s)
+    (record { receiver = more .receiver; count = 1 + more .count; text = text ++ more .text })
+
+-- a call's result, and the contents of the lent buffer as it returns
+pub record Left : Type 0 where
+  pub receiver : Receiver
+  pub count : ℕ
+  pub end : ℕ
+  pub out : List ℕ
+
+abbrev pub left : Ran → List ℕ → Left
+left r out = record { receiver = r .receiver; count = r .count; end = r .end; out = out }
+
+abbrev pub leaving : Run → List ℕ → ℕ → Left
+leaving w out at = record { receiver = w .receiver; count = w .count; end = at + length (w .text); out = laid out at (w .text) }
+
+-- the bodies at a chunk's front were heard, from behind so many records on
+pub record Heard (side : Side) (s : Receiver) (records : ℕ) (chunk out : List ℕ) (at : ℕ) (after : Left) : Type 0 where
+  pub bodies : List ℕ
+  pub gathered : Gathered (kindOf side) (mostRecords - records) chunk bodies
+  pub ran : after ≡ leaving (running (length out - at) side records s bodies) out at

@@ -1,0 +1,143 @@
+-- What the calls that list a tape answer and leave in the buffer lent to them, for every input.
+-- 01, The listing program, and Refusal numbers, rows 1 and 4 in their sense (docs/DECISIONS.md, The tape's refusals). Assumes nothing.
+use Prim.Native.Nat.{ℕ, _+_, _-_}
+use mathlib.Core.Bool.{Bool, true, false, cond, _&&_, _||_}
+use mathlib.Core.List.{List, [], _∷_, _++_}
+use lib.Dec.{ltb, eqb}
+use lib.ListN.{length}
+use Rattle.ground.specs.declared.refusal.Refusal.{Refusal}
+use Rattle.ground.specs.declared.refusal.Refusal.the-variants.{NoRoom, BadState}
+use Rattle.ground.specs.Refusals.{number}
+use Rattle.ground.specs.Laying.{laid}
+use Rattle.link_spec.specs.Receiving.{badState, received}
+use Rattle.tape_spec.specs.declared.tape.Ending.{Ending}
+use Rattle.tape_spec.specs.declared.tape.Ending.the-variants.{End as END, Cut as CUT, Bad as BAD, Full as FULL}
+use Rattle.tape_spec.specs.Limits.{leastRoom, mostRecords}
+use Rattle.tape_spec.specs.Rows.{brought, lastLine}
+use Rattle.tape_spec.specs.declared.tape.Next.{Next}
+use Rattle.tape_spec.specs.declared.tape.Next.the-variants.{Kind, Body, Bad, Full}
+use Rattle.tape_spec.specs.declared.tape.Receivers.{Receivers}
+use Rattle.tape_spec.specs.declared.tape.Tape.{Tape}
+use Rattle.tape_spec.specs.declared.tape.Listed.{Listed}
+use Rattle.tape_spec.specs.Whole.{known, unknown, kind, freshReceivers, on, turned}
+use Rattle.tape_spec.specs.Whole as whole
+
+abbrev pub being : ℕ → Next → Receivers → Tape
+being records next receivers = record { records = records; next = next; receivers = receivers }
+
+abbrev pub freshTape : Tape
+freshTape = being 0 Kind freshReceivers
+
+-- ---- one byte of a tape
+
+-- behind a kind byte its body is next, and nothing behind an unknown kind
+abbrev pub awaited : whole.Kind → Next
+awaited (known side) = Body side
+awaited unknown = Bad
+
+-- nor behind a byte after the last permitted record
+unfoldable pub behindKind : ℕ → ℕ → Next
+behindKind records k = cond (eqb records mostRecords) Full (awaited (kind k))
+
+-- the tape behind a byte, and the text that the byte brings
+pub record Step : Type 0 where
+  pub tape : Tape
+  pub text : List ℕ
+
+abbrev pub quiet : Tape → Step
+quiet t = record { tape = t; text = [] }
+
+unfoldable pub stepAt : Next → Tape → ℕ → Step
+stepAt Kind t b = quiet (being (t .records) (behindKind (t .records) b) (t .receivers))
+stepAt (Body side) t b =
+    let said = received (on side (t .receivers)) (b ∷ []) in
+    record { tape = being (t .records + 1) Kind (turned side (said .receiver) (t .receivers)); text = brought (t .records) side said }
+stepAt Bad t b = quiet t
+stepAt Full t b = quiet t
+
+abbrev pub stepped : Tape → ℕ → Step
+stepped t b = stepAt (t .next) t b
+
+-- whether nothing further is read
+abbrev pub isOver : Next → Bool
+isOver Kind = false
+isOver (Body side) = false
+isOver Bad = true
+isOver Full = true
+
+-- ---- one call on a chunk
+
+-- the tape behind the bytes taken, their number, and the text that they brought
+pub record Went : Type 0 where
+  pub tape : Tape
+  pub taken : ℕ
+  pub text : List ℕ
+
+abbrev pub standing : Tape → Went
+standing t = record { tape = t; taken = 0; text = [] }
+
+-- what was taken and brought behind a step
+abbrev pub behind : Step → Went → Went
+behind s w = record { tape = w .tape; taken = 1 + w .taken; text = s .text ++ w .text }
+
+-- byte by byte, while there is room for the longest line and something further is read
+unfoldable pub going : ℕ → Tape → List ℕ → Went
+going room t [] = standing t
+going room t (b ∷ bs) =
+    let s = stepped t b in
+    let more = going (room - length (s .text)) (s .tape) bs in
+    cond (isOver (t .next) || ltb room leastRoom) (standing t) (behind s more)
+
+-- a call's result in the paper's numbers, and the contents of the lent buffer as it returns
+pub record Told : Type 0 where
+  pub refusal : ℕ
+  pub tape : Tape
+  pub taken : ℕ
+  pub written : ℕ
+  pub out : List ℕ
+
+abbrev pub told : Listed → List ℕ → Told
+told r out = record { refusal = number (r .refusal); tape = r .tape; taken = r .taken; written = r .written; out = out }
+
+-- a refused call returns the number and counts 0, with tape and buffer as before
+abbrev pub refusing : Refusal → Tape → List ℕ → Told
+refusing why t out = record { refusal = number why; tape = t; taken = 0; written = 0; out = out }
+
+-- a call that was not refused
+abbrev pub answering : Tape → ℕ → ℕ → List ℕ → Told
+answering t taken written out = record { refusal = 0; tape = t; taken = taken; written = written; out = out }
+
+-- the text stands at the buffer's front, and bytes behind it stay as they were
+abbrev pub writing : Went → List ℕ → Told
+writing w out = answering (w .tape) (w .taken) (length (w .text)) (laid out 0 (w .text))
+
+-- in the sense of row 4: a receiver that the link refuses, or a body behind the last permitted record, is BadState
+abbrev pub badReceivers : Receivers → Bool
+badReceivers r = badState (r .point) || badState (r .addressed)
+
+abbrev pub awaitsBody : Next → Bool
+awaitsBody Kind = false
+awaitsBody (Body side) = true
+awaitsBody Bad = false
+awaitsBody Full = false
+
+abbrev pub badTape : Tape → Bool
+badTape t = badReceivers (t .receivers) || (awaitsBody (t .next) && eqb (t .records) mostRecords)
+
+-- in the sense of row 1: out under the least room is NoRoom. Order: 4, 1, as the reader's
+unfoldable pub listed : Tape → List ℕ → List ℕ → Told
+listed t chunk out =
+    cond (badTape t) (refusing BadState t out)
+    (cond (ltb (length out) leastRoom) (refusing NoRoom t out) (writing (going (length out) t chunk) out))
+
+-- ---- the last line
+
+-- how a tape ends that has no byte more
+abbrev pub ending : Next → Ending
+ending Kind = END
+ending (Body side) = CUT
+ending Bad = BAD
+ending Full = FULL
+
+abbrev pub lastOf : Tape → List ℕ
+lastOf t = lastLine (ending (t .next)) (t .records)

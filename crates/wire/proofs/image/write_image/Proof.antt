@@ -1,0 +1,111 @@
+-- `image::write_image` meets its contract: start, the stuffing in the part lent from index one on, stop.
+-- Assumes nothing.
+use mathlib.Core.Path.{_≡_, sym, ap, ap₂, _∙_}
+use mathlib.Core.List.{List}
+use Prim.Native.Nat.{ℕ, _+_, _-_, _≤_}
+use native.Mathlib.Omega.{arith}
+use borrow.Rule.Slice.PartMut.{putMid}
+use lib.ListN.{length, set, length-set, length-take, length-drop}
+use borrow.Author.Needs.{needs}
+use Rattle.ground.specs.Refusals.{counted}
+use Rattle.ground.specs.Laying.{laid}
+use Rattle.ground.proofs.Laws.Laying.{laid-part, length-laid}
+use Rattle.wire_spec.specs.Stuffing.{stuffing}
+use Rattle.wire_spec.specs.Image.{start, stop, image}
+use Rattle.wire_spec.specs.Writing.{leaving}
+use Rattle.wire_spec.proofs.Laws.Image.{length-image, imageLength-stuffing}
+use Rattle.wire_spec.proofs.Laws.Writing.{image-laid, written-short, written-whole}
+use Rattle.wire.proofs.image.write_image.Statement.{statement}
+use Rattle.wire.proofs.image.write_image.Tie as tie
+
+-- there is room for start, stuffing and stop
+room : (c : tie.Else1) → let a = c .before .before .before .before .args in 2 + length (stuffing (a .content .now)) ≤ length (a .out .now)
+room c = omega (arith, imageLength-stuffing (c .before .before .before .before .args .content .now))
+
+-- from the place where the part lent for the stuffing is back: the call's entry, the buffer with start in it, and with that part too
+abbrev entry : tie.After-slice-known2 → tie.Start
+entry c = c .before .before .before .before .before .before .before .before
+
+abbrev begun : tie.After-slice-known2 → List ℕ
+begun c = set (entry c .args .out .now) 0 start
+
+abbrev whole : tie.After-slice-known2 → List ℕ
+whole c = putMid 1 (length (begun c) - 1) (begun c) (c .before .before .stuff .last .1 .0)
+
+fits : (c : tie.After-slice-known2) → 1 + length (stuffing (entry c .args .content .now)) ≤ length (begun c)
+fits c = simp length-set (omega (arith, room (c .before .before .before .before)))
+
+-- the stuffing stands behind start
+back : (c : tie.After-slice-known2) → whole c ≡ laid (begun c) 1 (stuffing (entry c .args .content .now))
+back c = ap (putMid 1 (length (begun c) - 1) (begun c)) (c .before .before .stuff .ensures .1) ∙ laid-part (begun c) 1 _ (fits c)
+
+length-back : (c : tie.After-slice-known2) → length (whole c) ≡ length (entry c .args .out .now)
+length-back c = ap length (back c) ∙ length-laid (begun c) 1 _ (fits c) ∙ length-set (entry c .args .out .now) 0 start
+
+wire-length-requires : tie.Need-wire-length-requires
+wire-length-requires c κs = search needs
+
+refused-requires : tie.Need-refused-requires
+refused-requires c κs = search needs
+
+returns : tie.Need-returns
+returns c =
+    let a = c .before .before .before .before .before .args in
+    rw (c .refused .ensures, written-short (a .content .now) (a .out .now) (omega (arith, length-image (a .content .now))))
+
+slice-write-out : tie.Need-slice-write-out
+slice-write-out c = omega (arith, room c)
+
+sub-stuff : tie.Need-sub-stuff
+sub-stuff c = simp length-set (omega (arith, room c))
+
+part-stuff-start : tie.Need-part-stuff-start
+part-stuff-start c = sub-stuff c
+
+part-stuff-end : tie.Need-part-stuff-end
+part-stuff-end c = search needs
+
+stuff-requires : tie.Need-stuff-requires
+stuff-requires c κs =
+    simp (length-take, length-drop, length-set) (omega (arith, room (c .before)))
+
+add-out : tie.Need-add-out
+add-out c = omega (arith, room (c .before .before .before .before))
+
+slice-write-out-2 : tie.Need-slice-write-out-2
+slice-write-out-2 c = omega (arith, room (c .before .before .before .before), length-back c)
+
+of-requires : tie.Need-of-requires
+of-requires c κs = search needs
+
+same-length : tie.Need-same-length
+same-length c = rw (length-set _ _ stop) (length-back (c .before))
+
+returns-2 : tie.Need-returns-2
+returns-2 c =
+    let content = entry (c .before) .args .content .now in
+    let out = entry (c .before) .args .out .now in
+    let h : length (image content) ≤ length out = omega (arith, length-image content) in
+    rw (written-whole content out h)
+    (ap₂ leaving
+    (c .of .ensures ∙ ap counted (c .before .before .before .before .before .before .wire-length .ensures ∙ sym (length-image content)))
+    (ap₂ (λ (l : List ℕ) (k : ℕ). set l (1 + k) stop) (back (c .before)) (c .before .before .before .stuff .ensures .0)
+    ∙ image-laid content out h))
+
+pub write-image-spec : {M : Type 1} → statement M
+write-image-spec =
+    tie.close
+    (tie.spec
+    wire-length-requires
+    refused-requires
+    returns
+    slice-write-out
+    sub-stuff
+    part-stuff-start
+    part-stuff-end
+    stuff-requires
+    add-out
+    slice-write-out-2
+    of-requires
+    same-length
+    returns-2)
