@@ -7,9 +7,9 @@ use crate::line::Text;
 use ground::number;
 use link::Event;
 use link::Heard;
-use link::Line;
 use link::Phase;
 use link::Receiver;
+use link::Station;
 use link::fresh_addressed;
 use link::receive;
 use wire::MOST_CONTENT;
@@ -72,9 +72,9 @@ pub(crate) fn set_receiver(mut bench: Bench, payload: &[u8], text: Text) -> Done
         return bench.short(text);
     }
     let line = if payload[0] == 0 {
-        Line::Point
+        Station::Point
     } else {
-        Line::Addressed(payload[1])
+        Station::Addressed(payload[1])
     };
     let receiver = Receiver {
         line,
@@ -83,8 +83,8 @@ pub(crate) fn set_receiver(mut bench: Bench, payload: &[u8], text: Text) -> Done
         content: [payload[4]; MOST_CONTENT],
     };
     match line {
-        Line::Point => bench.point = receiver,
-        Line::Addressed(_) => bench.addressed = receiver,
+        Station::Point => bench.point = receiver,
+        Station::Addressed(_) => bench.addressed = receiver,
     }
     bench.done(text)
 }

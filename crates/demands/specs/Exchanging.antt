@@ -13,7 +13,7 @@ use Rattle.request_spec.specs.declared.command.Acceptance.the-variants.{Accepte
 use Rattle.request_spec.specs.declared.command.Fault.{Fault}
 use Rattle.request_spec.specs.Acceptance.{acceptance, nackOf}
 use Rattle.request_spec.specs.Replies.{Reply, NACK, sign, frontOf}
-use Rattle.request_spec.specs.Reading.{accepting, replyRead}
+use Rattle.request_spec.specs.Reading.{hasRead, replyRead}
 use Rattle.reader_spec.specs.declared.reader.Reader.{Reader}
 use Rattle.reader_spec.specs.declared.reader.Answer.{Answer}
 use Rattle.reader_spec.specs.Replies.{IsAnswer, replyImage, replyTo}
@@ -44,7 +44,7 @@ pub record Refuses (s : Reader) (identifier code : ℕ) («data» store : List �
 -- a reply that is sent in these bytes is heard, and read as what it is
 pub record Delivered (identifier code : ℕ) («data» before : List ℕ) (all : List Told) (bytes : List ℕ) (reply : Reply) : Type 0 where
   pub heard : List·Memᴰ (toldAt (length before + length bytes) FRAME (frontOf identifier code reply)) all
-  pub reads : replyRead identifier code «data» (frontOf identifier code reply) ≡ accepting reply
+  pub reads : replyRead identifier code «data» (frontOf identifier code reply) ≡ hasRead reply
 
 -- a request that is executed, its reply sent, heard, and read: the master accepts it and answers what the reader meant
 pub record Exchanged (h : History) (identifier code : ℕ) («data» header antenna before : List ℕ) (all : List Told)

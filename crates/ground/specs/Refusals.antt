@@ -19,19 +19,19 @@ number WrongCommand = 7
 number WrongLength = 8
 number WrongReason = 9
 
-pub record Answer : Type 0 where
+pub record Tally : Type 0 where
   pub refusal : ℕ
   pub count : ℕ
 
 -- what a call's result says
-abbrev pub answered : Counted → Answer
-answered r = record { refusal = number (r .refusal); count = r .count }
+abbrev pub tally : Counted → Tally
+tally r = record { refusal = number (r .refusal); count = r .count }
 
 -- a refused call returns the number and count 0
-abbrev pub refused : Refusal → Answer
+abbrev pub refused : Refusal → Tally
 refused why = record { refusal = number why; count = 0 }
 
-abbrev pub counted : ℕ → Answer
+abbrev pub counted : ℕ → Tally
 counted n = record { refusal = 0; count = n }
 
 -- 01, below the table: where a call refused, what it was given is as before

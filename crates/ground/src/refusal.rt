@@ -1,6 +1,6 @@
 // Why a call refused its input, and the answer of a call that counts bytes.
 ghost use mathlib.Core.Path.{_≡_};
-ghost use Rattle.ground.specs.Refusals.{number as numberOf, answered, refused as refusedOf, counted as countedOf};
+ghost use Rattle.ground.specs.Refusals.{number as numberOf, tally, refused as refusedOf, counted as countedOf};
 
 pub enum Refusal {
     None,
@@ -42,14 +42,14 @@ pub fn number(refusal: Refusal) -> u8
 impl Counted {
     // With this refusal, and no byte counted.
     pub fn refused(refusal: Refusal) -> Counted
-        ensures { λ r. ⌜ answered r ≡ refusedOf refusal ⌝ }
+        ensures { λ r. ⌜ tally r ≡ refusedOf refusal ⌝ }
     {
         Counted { refusal, count: 0 }
     }
 
     // So many bytes, and no refusal.
     pub fn of(count: usize) -> Counted
-        ensures { λ r. ⌜ answered r ≡ countedOf count ⌝ }
+        ensures { λ r. ⌜ tally r ≡ countedOf count ⌝ }
     {
         Counted {
             refusal: Refusal::None,

@@ -2,23 +2,23 @@
 use crate::rules::at_byte;
 use crate::rules::at_stop;
 use crate::station::check_on;
-use crate::station::has_station;
+use crate::station::has_address;
 use crate::station::is_station;
 use ground::Refusal;
 use link_spec::Event;
 use link_spec::Fresh;
 use link_spec::Heard;
-use link_spec::Line;
 use link_spec::Phase;
 use link_spec::Receiver;
 use link_spec::SILENT;
+use link_spec::Station;
 use link_spec::Turn;
 use link_spec::Verdict;
 use wire::MOST_CONTENT;
 ghost use mathlib.Core.Path.{_≡_};
 ghost use Prim.Native.Nat.{_≤_};
 ghost use Rattle.wire_spec.specs.Limits.{mostContent};
-ghost use Rattle.link_spec.specs.Receiving.{fresh as freshOf, outside as outsideOf, made, freshMade, saying, answering, heard, badState, refusedState, received};
+ghost use Rattle.link_spec.specs.Receiving.{freshReceiver as freshOf, outside as outsideOf, made, freshMade, saying, saidOf, heard, badReceiver, notHeard, received};
 
 // The first event inside a piece, and how many bytes were taken, up to and with its byte.
 struct Found {
@@ -28,17 +28,17 @@ struct Found {
 
 // A fresh receiver of the point line.
 pub fn fresh_point() -> Receiver
-    ensures { λ r. ⌜ r ≡ freshOf Line.Point ⌝ }
+    ensures { λ r. ⌜ r ≡ freshOf Station.Point ⌝ }
 {
-    fresh(Line::Point)
+    fresh(Station::Point)
 }
 
 // A fresh receiver of the addressed line for a station: 00 the master, else a reader's own address. Refuses 7F and FD..FF (BadAddress).
-pub fn fresh_addressed(station: u8) -> Fresh
-    ensures { λ r. ⌜ made r ≡ freshMade station ⌝ }
+pub fn fresh_addressed(own: u8) -> Fresh
+    ensures { λ r. ⌜ made r ≡ freshMade own ⌝ }
 {
-    let receiver = fresh(Line::Addressed(station));
-    let refusal = if is_station(station) {
+    let receiver = fresh(Station::Addressed(own));
+    let refusal = if is_station(own) {
         Refusal::None
     } else {
         Refusal::BadAddress
@@ -46,18 +46,18 @@ pub fn fresh_addressed(station: u8) -> Fresh
     Fresh { refusal, receiver }
 }
 
-fn fresh(line: Line) -> Receiver
-    ensures { λ r. ⌜ r ≡ freshOf line ⌝ }
+fn fresh(station: Station) -> Receiver
+    ensures { λ r. ⌜ r ≡ freshOf station ⌝ }
 {
-    outside(line, [0u8; MOST_CONTENT])
+    outside(station, [0u8; MOST_CONTENT])
 }
 
 // Outside a frame. What `content` holds is passed over from here on.
-fn outside(line: Line, content: [u8; MOST_CONTENT]) -> Receiver
-    ensures { λ r. ⌜ r ≡ outsideOf line content ⌝ }
+fn outside(station: Station, content: [u8; MOST_CONTENT]) -> Receiver
+    ensures { λ r. ⌜ r ≡ outsideOf station content ⌝ }
 {
     Receiver {
-        line,
+        station,
         phase: Phase::Outside,
         count: 0,
         content,
@@ -77,10 +77,10 @@ pub fn receive(receiver: Receiver, piece: &[u8]) -> Heard
 
 // Whether a call on this receiver is refused: its count is over 64, or no station may have its address.
 pub fn is_bad_state(receiver: Receiver) -> bool
-    ensures { λ r. ⌜ r ≡ badState receiver ⌝ }
+    ensures { λ r. ⌜ r ≡ badReceiver receiver ⌝ }
 {
-    let line = receiver.line;
-    if has_station(line) {
+    let station = receiver.station;
+    if has_address(station) {
         receiver.count > MOST_CONTENT
     } else {
         true
@@ -92,7 +92,7 @@ fn hear(receiver: Receiver, piece: &[u8]) -> Heard
     requires { ⌜ receiver .count ≤ mostContent ⌝ }
     ensures { λ r. ⌜ saying r ≡ heard 0 receiver (now (piece .entry)) ⌝ }
 {
-    let line = receiver.line;
+    let station = receiver.station;
     let mut phase = receiver.phase;
     let mut count = receiver.count;
     let mut content = receiver.content;
@@ -100,14 +100,14 @@ fn hear(receiver: Receiver, piece: &[u8]) -> Heard
     let found = loop {
         if taken == piece.len() {
             let receiver = Receiver {
-                line,
+                station,
                 phase,
                 count,
                 content,
             };
-            return told(receiver, SILENT, taken);
+            return heard_with(receiver, SILENT, taken);
         }
-        let turn = at_byte(line, phase, count, piece[taken]);
+        let turn = at_byte(station, phase, count, piece[taken]);
         taken += 1;
         match turn {
             Turn::Rest => {}
@@ -122,7 +122,7 @@ fn hear(receiver: Receiver, piece: &[u8]) -> Heard
                 count += 1;
             }
             Turn::Stop => {
-                let verdict = at_stop(check_on(line), &content[..count]);
+                let verdict = at_stop(check_on(station), &content[..count]);
                 break Found { verdict, taken };
             }
             Turn::Tell(event) => {
@@ -131,12 +131,12 @@ fn hear(receiver: Receiver, piece: &[u8]) -> Heard
             }
         }
     };
-    told(outside(line, content), found.verdict, found.taken)
+    heard_with(outside(station, content), found.verdict, found.taken)
 }
 
 // The answer with this receiver and verdict; the event's content is the front part of what the receiver kept.
-fn told(receiver: Receiver, verdict: Verdict, taken: usize) -> Heard
-    ensures { λ r. ⌜ saying r ≡ answering receiver verdict taken ⌝ }
+fn heard_with(receiver: Receiver, verdict: Verdict, taken: usize) -> Heard
+    ensures { λ r. ⌜ saying r ≡ saidOf receiver verdict taken ⌝ }
 {
     let content = receiver.content;
     let event = verdict.event;
@@ -151,7 +151,7 @@ fn told(receiver: Receiver, verdict: Verdict, taken: usize) -> Heard
 }
 
 fn refused(receiver: Receiver) -> Heard
-    ensures { λ r. ⌜ saying r ≡ refusedState receiver ⌝ }
+    ensures { λ r. ⌜ saying r ≡ notHeard receiver ⌝ }
 {
     let content = receiver.content;
     Heard {

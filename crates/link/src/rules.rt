@@ -5,8 +5,8 @@ use checks::check_length;
 use checks::is_right;
 use link_spec::Event;
 use link_spec::LEAST_CONTENT;
-use link_spec::Line;
 use link_spec::Phase;
+use link_spec::Station;
 use link_spec::Turn;
 use link_spec::Verdict;
 use wire::ESCAPE;
@@ -19,33 +19,33 @@ ghost use Rattle.link_spec.specs.Events.{verdict};
 ghost use Rattle.link_spec.specs.Turning.{turn, inside as insideOf, plain as plainOf, partner as partnerOf, kept as keptOf};
 
 // FD before all else; then by where the receiver is.
-pub(crate) fn at_byte(line: Line, phase: Phase, count: usize, byte: u8) -> Turn
-    ensures { λ r. ⌜ r ≡ turn line phase count byte ⌝ }
+pub(crate) fn at_byte(station: Station, phase: Phase, count: usize, byte: u8) -> Turn
+    ensures { λ r. ⌜ r ≡ turn station phase count byte ⌝ }
 {
     if byte == START {
         return Turn::Begin;
     }
     match phase {
         Phase::Outside => Turn::Rest,
-        Phase::Inside => inside(line, count, byte),
+        Phase::Inside => inside(station, count, byte),
         Phase::Pending => partner(count, byte),
     }
 }
 
 // Inside a frame, at another byte than FD.
-fn inside(line: Line, count: usize, byte: u8) -> Turn
-    ensures { λ r. ⌜ r ≡ insideOf line count byte ⌝ }
+fn inside(station: Station, count: usize, byte: u8) -> Turn
+    ensures { λ r. ⌜ r ≡ insideOf station count byte ⌝ }
 {
     if byte == STOP {
         return Turn::Stop;
     }
-    match line {
-        Line::Point => plain(count, byte),
-        Line::Addressed(station) => {
+    match station {
+        Station::Point => plain(count, byte),
+        Station::Addressed(own) => {
             if count > 0 {
                 return plain(count, byte);
             }
-            if takes(station, byte) {
+            if takes(own, byte) {
                 return kept(count, byte);
             }
             Turn::Tell(Event::Addr)

@@ -2,11 +2,11 @@
 use checks::Check;
 use link_spec::BROADCAST;
 use link_spec::LAST_ADDRESS;
-use link_spec::Line;
 use link_spec::MASTER;
+use link_spec::Station;
 ghost use mathlib.Core.Path.{_≡_};
 ghost use Rattle.link_spec.specs.Address.{isStation, takes as takesOf};
-ghost use Rattle.link_spec.specs.Line.{checkOn, hasStation as hasStationOf};
+ghost use Rattle.link_spec.specs.Station.{checkOn, hasAddress as hasStationOf};
 
 // Whether a station may have this address.
 pub(crate) fn is_station(address: u8) -> bool
@@ -19,34 +19,34 @@ pub(crate) fn is_station(address: u8) -> bool
 }
 
 // Whether the station takes a frame with this address.
-pub(crate) fn takes(station: u8, address: u8) -> bool
-    ensures { λ r. ⌜ r ≡ takesOf station address ⌝ }
+pub(crate) fn takes(own: u8, address: u8) -> bool
+    ensures { λ r. ⌜ r ≡ takesOf own address ⌝ }
 {
-    if station == MASTER {
+    if own == MASTER {
         return address == MASTER;
     }
-    if address == station {
+    if address == own {
         return true;
     }
     address == BROADCAST
 }
 
 // The check of the line's frames.
-pub(crate) fn check_on(line: Line) -> Check
-    ensures { λ r. ⌜ r ≡ checkOn line ⌝ }
+pub(crate) fn check_on(station: Station) -> Check
+    ensures { λ r. ⌜ r ≡ checkOn station ⌝ }
 {
-    match line {
-        Line::Point => Check::Fcs,
-        Line::Addressed(_) => Check::Sum,
+    match station {
+        Station::Point => Check::Fcs,
+        Station::Addressed(_) => Check::Sum,
     }
 }
 
 // Whether the line has a station where it wants one.
-pub(crate) fn has_station(line: Line) -> bool
-    ensures { λ r. ⌜ r ≡ hasStationOf line ⌝ }
+pub(crate) fn has_address(station: Station) -> bool
+    ensures { λ r. ⌜ r ≡ hasStationOf station ⌝ }
 {
-    match line {
-        Line::Point => true,
-        Line::Addressed(station) => is_station(station),
+    match station {
+        Station::Point => true,
+        Station::Addressed(own) => is_station(own),
     }
 }

@@ -27,4 +27,4 @@ isStation a = isMaster a || isOwn a
 
 -- a master station takes 00 only; a reader takes its own address and 7F
 unfoldable pub takes : ℕ → ℕ → Bool
-takes station a = cond (isMaster station) (isMaster a) (eqb a station || isBroadcast a)
+takes own a = cond (isMaster own) (isMaster a) (eqb a own || isBroadcast a)

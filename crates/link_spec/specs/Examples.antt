@@ -10,12 +10,12 @@ use Rattle.checks.specs.declared.kind.Check.the-variants.{Fcs, Sum}
 use Rattle.checks.specs.Check.{withCheck, isRight}
 use Rattle.wire_spec.specs.Stuffing.{stuffing}
 use Rattle.wire_spec.specs.Image.{image}
-use Rattle.link_spec.specs.declared.station.Line.{Line}
-use Rattle.link_spec.specs.declared.station.Line.the-variants.{Point, Addressed}
+use Rattle.link_spec.specs.declared.station.Station.{Station}
+use Rattle.link_spec.specs.declared.station.Station.the-variants.{Point, Addressed}
 use Rattle.link_spec.specs.Frame.{pointContent, addressedContent}
 use Rattle.link_spec.specs.Writers.{pointWritten, addressedWritten}
 use Rattle.link_spec.specs.Events.{Name, FRAME, CHECK, SHORT, LONG, PAIR, ADDR, named, verdict}
-use Rattle.link_spec.specs.Receiving.{fresh, received}
+use Rattle.link_spec.specs.Receiving.{freshReceiver, received}
 use Rattle.link_spec.specs.Hearing.{toldAt, tells}
 
 -- an example: what is done, and what the paper prints for it
@@ -30,26 +30,26 @@ pub data Example : Type 0 where
   -- a stop byte behind this content tells this
   stops : (check : Check) (content : List ℕ) (event : Name) → Example
   -- to a fresh receiver the stream tells this first
-  hears : (line : Line) (stream : List ℕ) (place : ℕ) (event : Name) (content : List ℕ) → Example
+  hears : (station : Station) (stream : List ℕ) (place : ℕ) (event : Name) (content : List ℕ) → Example
   -- and this next, to a second call that continues where the first stopped
-  hearsNext : (line : Line) (stream : List ℕ) (place : ℕ) (event : Name) (content : List ℕ) → Example
+  hearsNext : (station : Station) (stream : List ℕ) (place : ℕ) (event : Name) (content : List ℕ) → Example
 
 abbrev pub Holds : Example → Type 0
 Holds (pointImage identifier command «data» printed) = image (pointContent identifier command «data») ≡ printed
 Holds (addressedImage address identifier command «data» printed) = image (addressedContent address identifier command «data») ≡ printed
 Holds (stuffs content printed) = stuffing content ≡ printed
 Holds (pointWrites identifier command «data» room refusal count) =
-    pointWritten identifier command «data» (replicate room 0) .answer ≡ record { refusal = refusal; count = count }
+    pointWritten identifier command «data» (replicate room 0) .tally ≡ record { refusal = refusal; count = count }
 Holds (addressedWrites address identifier command «data» room refusal count) =
-    addressedWritten address identifier command «data» (replicate room 0) .answer ≡ record { refusal = refusal; count = count }
+    addressedWritten address identifier command «data» (replicate room 0) .tally ≡ record { refusal = refusal; count = count }
 Holds (rightCheck check content) = isRight check content ≡ true
 Holds (stops check content event) = named (verdict check content .event) ≡ event
-Holds (hears line stream place event content) = tells 0 (received (fresh line) stream) ≡ toldAt place event content ∷ []
-Holds (hearsNext line stream place event content) =
-    let first = received (fresh line) stream in
+Holds (hears station stream place event content) = tells 0 (received (freshReceiver station) stream) ≡ toldAt place event content ∷ []
+Holds (hearsNext station stream place event content) =
+    let first = received (freshReceiver station) stream in
     tells (first .taken) (received (first .receiver) (drop (first .taken) stream)) ≡ toldAt place event content ∷ []
 
-abbrev master : Line
+abbrev master : Station
 master = Addressed 0x00
 
 abbrev pub examples : List Example

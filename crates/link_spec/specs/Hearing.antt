@@ -5,13 +5,13 @@ use mathlib.Core.Path.{_≡_}
 use mathlib.Core.Bool.{cond}
 use mathlib.Core.List.{List, [], _∷_, _++_}
 use lib.ListN.{length, take, drop}
-use Rattle.link_spec.specs.declared.station.Line.{Line}
-use Rattle.link_spec.specs.declared.station.Line.the-variants.{Point, Addressed}
+use Rattle.link_spec.specs.declared.station.Station.{Station}
+use Rattle.link_spec.specs.declared.station.Station.the-variants.{Point, Addressed}
 use Rattle.link_spec.specs.declared.receiver.Receiver.{Receiver}
 use Rattle.link_spec.specs.declared.receiver.Fresh.{Fresh}
 use Rattle.link_spec.specs.declared.receiver.Heard.{Heard}
 use Rattle.link_spec.specs.Events.{Name, happened}
-use Rattle.link_spec.specs.Receiving.{fresh, made, freshMade, Said, saying, received}
+use Rattle.link_spec.specs.Receiving.{freshReceiver, made, freshMade, Said, saying, received}
 
 -- an event with its place, the number of its byte in the stream (the first byte is 1), and its content without check
 pub record Told : Type 0 where
@@ -31,9 +31,9 @@ unfoldable pub tells : ℕ → Said → List Told
 tells before said = note (before + said .taken) (said .event) (take (said .length) (said .content))
 
 -- a receiver of this line, as the call that makes it answers unless it refuses
-pub data IsFresh : Line → Receiver → Type 0 where
-  point : {r : Receiver} → r ≡ fresh Point → IsFresh Point r
-  addressed : (r : Fresh) {station : ℕ} → made r ≡ freshMade station → made r .refusal ≡ 0 → IsFresh (Addressed station) (r .receiver)
+pub data IsFresh : Station → Receiver → Type 0 where
+  point : {r : Receiver} → r ≡ freshReceiver Point → IsFresh Point r
+  addressed : (r : Fresh) {own : ℕ} → made r ≡ freshMade own → made r .refusal ≡ 0 → IsFresh (Addressed own) (r .receiver)
 
 -- A hearing of what is left of a stream behind so many bytes, and what its calls tell: either nothing is left, or there is one call
 -- more, on any piece, empty too, that continues there, and the hearing goes on with the receiver and behind the bytes that the call

@@ -4,7 +4,7 @@
 -- the rule that crew and desk signed; Examples beside 'Bench examples'.
 pub mod Limits
 pub mod Address
-pub mod Line
+pub mod Station
 pub mod Frame
 pub mod Writers
 pub mod Events

@@ -9,11 +9,11 @@ use lib.ListN.{length}
 use Rattle.wire_spec.specs.Limits.{mostContent}
 use Rattle.wire_spec.specs.Image.{image}
 use Rattle.wire_spec.specs.Writing.{After, putting}
-use Rattle.link_spec.specs.declared.station.Line.{Line}
-use Rattle.link_spec.specs.declared.station.Line.the-variants.{Point, Addressed}
+use Rattle.link_spec.specs.declared.station.Station.{Station}
+use Rattle.link_spec.specs.declared.station.Station.the-variants.{Point, Addressed}
 use Rattle.link_spec.specs.Limits.{leastContent}
 use Rattle.link_spec.specs.Address.{takes}
-use Rattle.link_spec.specs.Line.{checked, Taken}
+use Rattle.link_spec.specs.Station.{checked, Taken}
 use Rattle.link_spec.specs.Frame.{pointContent, addressedContent}
 use Rattle.link_spec.specs.Writers.{pointWritten, addressedWritten}
 use Rattle.link_spec.specs.Events.{FRAME}
@@ -21,25 +21,25 @@ use Rattle.link_spec.specs.Hearing.{Told, toldAt}
 
 -- The complete wire image of a content stands in the stream and ends at this place. The content is this front with its check behind it;
 -- it has 4 to 64 bytes, and on the addressed line its address is one that this station takes.
-pub record Stands (line : Line) (stream : List ℕ) (place : ℕ) (front : List ℕ) : Type 0 where
+pub record Stands (station : Station) (stream : List ℕ) (place : ℕ) (front : List ℕ) : Type 0 where
   pub before : List ℕ
   pub after : List ℕ
-  pub split : stream ≡ before ++ (image (checked line front) ++ after)
-  pub ends : place ≡ length before + length (image (checked line front))
-  pub least : leastContent ≤ length (checked line front)
-  pub most : length (checked line front) ≤ mostContent
-  pub address : Taken line (checked line front)
+  pub split : stream ≡ before ++ (image (checked station front) ++ after)
+  pub ends : place ≡ length before + length (image (checked station front))
+  pub least : leastContent ≤ length (checked station front)
+  pub most : length (checked station front) ≤ mostContent
+  pub address : Taken station (checked station front)
 
 -- places strictly rise, from behind a place on
-abbrev pub Rise : ℕ → List Told → Type 0
-Rise before [] = Unit {0}
-Rise before (t ∷ ts) = (before < t .place) × Rise (t .place) ts
+abbrev pub PlacesRise : ℕ → List Told → Type 0
+PlacesRise before [] = Unit {0}
+PlacesRise before (t ∷ ts) = (before < t .place) × PlacesRise (t .place) ts
 
 -- the FRAMEs told are exactly those that stand in the stream, each once, in stream order
-pub record Lists (line : Line) (stream : List ℕ) (all : List Told) : Type 0 where
-  pub rise : Rise 0 all
-  pub each : (place : ℕ) (front : List ℕ) → Stands line stream place front → List·Memᴰ (toldAt place FRAME front) all
-  pub only : (place : ℕ) (front : List ℕ) → List·Memᴰ (toldAt place FRAME front) all → Stands line stream place front
+pub record Lists (station : Station) (stream : List ℕ) (all : List Told) : Type 0 where
+  pub rise : PlacesRise 0 all
+  pub each : (place : ℕ) (front : List ℕ) → Stands station stream place front → List·Memᴰ (toldAt place FRAME front) all
+  pub only : (place : ℕ) (front : List ℕ) → List·Memᴰ (toldAt place FRAME front) all → Stands station stream place front
 
 -- where there is room, this writer writes the image of this content
 abbrev pub Writes : (List ℕ → After) → List ℕ → Type 0
@@ -47,16 +47,16 @@ Writes writer content = (out : List ℕ) → length (image content) ≤ length o
 
 -- What a front lists, and the content with its check that belongs to it: identifier, command and data, on the addressed line with an
 -- address before them that this station takes. The line's writer, asked to write these, writes the image of that content.
-pub data Fields : Line → List ℕ → List ℕ → Type 0 where
+pub data Fields : Station → List ℕ → List ℕ → Type 0 where
   onPoint : (identifier command : ℕ) («data» : List ℕ)
       → Writes (pointWritten identifier command «data») (pointContent identifier command «data»)
       → Fields Point (identifier ∷ command ∷ «data») (pointContent identifier command «data»)
-  onAddressed : {station : ℕ} (address identifier command : ℕ) («data» : List ℕ)
-      → takes station address ≡ true
+  onAddressed : {own : ℕ} (address identifier command : ℕ) («data» : List ℕ)
+      → takes own address ≡ true
       → Writes (addressedWritten address identifier command «data») (addressedContent address identifier command «data»)
-      → Fields (Addressed station) (address ∷ identifier ∷ command ∷ «data») (addressedContent address identifier command «data»)
+      → Fields (Addressed own) (address ∷ identifier ∷ command ∷ «data») (addressedContent address identifier command «data»)
 
 -- what stands in the stream is the image that the writer writes of what the front lists
-pub record IsImage (line : Line) (stream : List ℕ) (place : ℕ) (front : List ℕ) : Type 0 where
-  pub stands : Stands line stream place front
-  pub fields : Fields line front (checked line front)
+pub record IsImage (station : Station) (stream : List ℕ) (place : ℕ) (front : List ℕ) : Type 0 where
+  pub stands : Stands station stream place front
+  pub fields : Fields station front (checked station front)

@@ -11,8 +11,8 @@ use Rattle.checks.specs.declared.kind.Check.{Check}
 use Rattle.wire_spec.specs.Limits.{mostContent}
 use Rattle.link_spec.specs.declared.event.Verdict.{Verdict}
 use Rattle.link_spec.specs.declared.event.Event.the-variants.{None}
-use Rattle.link_spec.specs.declared.station.Line.{Line}
-use Rattle.link_spec.specs.declared.station.Line.the-variants.{Addressed}
+use Rattle.link_spec.specs.declared.station.Station.{Station}
+use Rattle.link_spec.specs.declared.station.Station.the-variants.{Addressed}
 use Rattle.link_spec.specs.declared.receiver.Phase.{Phase}
 use Rattle.link_spec.specs.declared.receiver.Phase.the-variants.{Outside, Inside, Pending}
 use Rattle.link_spec.specs.declared.receiver.Turn.{Turn}
@@ -21,21 +21,21 @@ use Rattle.link_spec.specs.declared.receiver.Receiver.{Receiver}
 use Rattle.link_spec.specs.declared.receiver.Fresh.{Fresh}
 use Rattle.link_spec.specs.declared.receiver.Heard.{Heard}
 use Rattle.link_spec.specs.Address.{isStation}
-use Rattle.link_spec.specs.Line.{checkOn, hasStation}
+use Rattle.link_spec.specs.Station.{checkOn, hasAddress}
 use Rattle.link_spec.specs.Events.{Name, named, telling, silent, verdict}
 use Rattle.link_spec.specs.Turning.{turn}
 
-abbrev pub being : Line → Phase → ℕ → List ℕ → Receiver
-being line phase count content = record { line = line; phase = phase; count = count; content = content }
+abbrev pub receiverOf : Station → Phase → ℕ → List ℕ → Receiver
+receiverOf station phase count content = record { station = station; phase = phase; count = count; content = content }
 
 -- ---- fresh receivers
 
 -- outside a frame, with no content so far
-abbrev pub outside : Line → List ℕ → Receiver
-outside line content = being line Outside 0 content
+abbrev pub outside : Station → List ℕ → Receiver
+outside station content = receiverOf station Outside 0 content
 
-abbrev pub fresh : Line → Receiver
-fresh line = outside line (replicate mostContent 0)
+abbrev pub freshReceiver : Station → Receiver
+freshReceiver station = outside station (replicate mostContent 0)
 
 -- a call's result in the paper's numbers
 pub record Made : Type 0 where
@@ -47,7 +47,7 @@ made r = record { refusal = number (r .refusal); receiver = r .receiver }
 
 -- row 3: a new station given 7F or FD..FF is BadAddress
 unfoldable pub freshMade : ℕ → Made
-freshMade station = record { refusal = cond (isStation station) 0 (number BadAddress); receiver = fresh (Addressed station) }
+freshMade own = record { refusal = cond (isStation own) 0 (number BadAddress); receiver = freshReceiver (Addressed own) }
 
 -- ---- one byte
 
@@ -56,16 +56,16 @@ abbrev pub soFar : Receiver → List ℕ
 soFar s = take (s .count) (s .content)
 
 abbrev pub turnAt : Receiver → ℕ → Turn
-turnAt s b = turn (s .line) (s .phase) (s .count) b
+turnAt s b = turn (s .station) (s .phase) (s .count) b
 
 -- the receiver behind a byte; after each event it is outside a frame
 unfoldable pub moved : Receiver → Turn → Receiver
 moved s Rest = s
-moved s Begin = being (s .line) Inside 0 (s .content)
-moved s Wait = being (s .line) Pending (s .count) (s .content)
-moved s (Keep b) = being (s .line) Inside (s .count + 1) (set (s .content) (s .count) b)
-moved s Stop = outside (s .line) (s .content)
-moved s (Tell why) = outside (s .line) (s .content)
+moved s Begin = receiverOf (s .station) Inside 0 (s .content)
+moved s Wait = receiverOf (s .station) Pending (s .count) (s .content)
+moved s (Keep b) = receiverOf (s .station) Inside (s .count + 1) (set (s .content) (s .count) b)
+moved s Stop = outside (s .station) (s .content)
+moved s (Tell why) = outside (s .station) (s .content)
 
 -- whether a turn has an event
 abbrev pub hasEvent : Turn → Bool
@@ -86,7 +86,7 @@ outcome check content Stop = verdict check content
 outcome check content (Tell why) = telling why 0
 
 abbrev pub outcomeAt : Receiver → Turn → Verdict
-outcomeAt s t = outcome (checkOn (s .line)) (soFar s) t
+outcomeAt s t = outcome (checkOn (s .station)) (soFar s) t
 
 -- ---- one call
 
@@ -111,25 +111,25 @@ saying r =
     }
 
 -- an answer that is no refusal: the event's content is the front part of what the receiver kept
-abbrev pub answering : Receiver → Verdict → ℕ → Said
-answering s v taken =
+abbrev pub saidOf : Receiver → Verdict → ℕ → Said
+saidOf s v taken =
     record { refusal = 0; receiver = s; event = named (v .event); content = s .content; length = v .length; taken = taken }
 
 -- the bytes one by one up to the first event, with a number of bytes taken before; without an event, all of them
 unfoldable pub heard : ℕ → Receiver → List ℕ → Said
-heard taken s [] = answering s silent taken
+heard taken s [] = saidOf s silent taken
 heard taken s (b ∷ bs) =
     let t = turnAt s b in
     let on = heard (taken + 1) (moved s t) bs in
-    cond (hasEvent t) (answering (moved s t) (outcomeAt s t) (taken + 1)) on
+    cond (hasEvent t) (saidOf (moved s t) (outcomeAt s t) (taken + 1)) on
 
 -- event none, count 0, state as it came
-abbrev pub refusedState : Receiver → Said
-refusedState s = record { refusal = number BadState; receiver = s; event = named None; content = s .content; length = 0; taken = 0 }
+abbrev pub notHeard : Receiver → Said
+notHeard s = record { refusal = number BadState; receiver = s; event = named None; content = s .content; length = 0; taken = 0 }
 
 -- row 4: a count over 64, or on the addressed line an address no station may have, is BadState
-abbrev pub badState : Receiver → Bool
-badState s = ltb mostContent (s .count) || not (hasStation (s .line))
+abbrev pub badReceiver : Receiver → Bool
+badReceiver s = ltb mostContent (s .count) || not (hasAddress (s .station))
 
 unfoldable pub received : Receiver → List ℕ → Said
-received s piece = cond (badState s) (refusedState s) (heard 0 s piece)
+received s piece = cond (badReceiver s) (notHeard s) (heard 0 s piece)

@@ -14,8 +14,8 @@ use Rattle.wire_spec.specs.Stuffing.{special}
 use Rattle.wire_spec.specs.Image.{start, stop}
 use Rattle.link_spec.specs.declared.event.Event.the-variants.{Frame, Check, Short, Long, Pair, Addr}
 use Rattle.link_spec.specs.declared.event.Verdict.{Verdict}
-use Rattle.link_spec.specs.declared.station.Line.{Line}
-use Rattle.link_spec.specs.declared.station.Line.the-variants.{Point, Addressed}
+use Rattle.link_spec.specs.declared.station.Station.{Station}
+use Rattle.link_spec.specs.declared.station.Station.the-variants.{Point, Addressed}
 use Rattle.link_spec.specs.declared.receiver.Phase.{Phase}
 use Rattle.link_spec.specs.declared.receiver.Phase.the-variants.{Outside, Inside, Pending}
 use Rattle.link_spec.specs.declared.receiver.Turn.{Turn}
@@ -25,35 +25,35 @@ use Rattle.link_spec.specs.Address.{takes}
 use Rattle.link_spec.specs.Events.{telling}
 
 -- behind so many content bytes a byte is the raw address, and whether this station takes it
-pub data Address : Line → ℕ → ℕ → Bool → Type 0 where
-  first : {station b : ℕ} {taken : Bool}
+pub data Address : Station → ℕ → ℕ → Bool → Type 0 where
+  first : {own b : ℕ} {taken : Bool}
       → (b ≡ start → ⊥)
       → (b ≡ stop → ⊥)
-      → takes station b ≡ taken
-      → Address (Addressed station) zero b taken
+      → takes own b ≡ taken
+      → Address (Addressed own) zero b taken
 
 -- behind so many content bytes a byte is not the address
-pub data Later : Line → ℕ → Type 0 where
+pub data Later : Station → ℕ → Type 0 where
   onPoint : {count : ℕ} → Later Point count
-  behind : {station count : ℕ} → Later (Addressed station) (suc count)
+  afterFirst : {own count : ℕ} → Later (Addressed own) (suc count)
 
-pub data ByRule (line : Line) (count b : ℕ) : Phase → Turn → Type 0 where
+pub data ByRule (station : Station) (count b : ℕ) : Phase → Turn → Type 0 where
   -- outside a frame everything but FD is ignored; FD begins a frame from every state
-  ignored : (b ≡ start → ⊥) → ByRule line count b Outside Rest
-  begins : {phase : Phase} → b ≡ start → ByRule line count b phase Begin
+  ignored : (b ≡ start → ⊥) → ByRule station count b Outside Rest
+  begins : {phase : Phase} → b ≡ start → ByRule station count b phase Begin
   -- 1
-  stops : b ≡ stop → ByRule line count b Inside Stop
+  stops : b ≡ stop → ByRule station count b Inside Stop
   -- 2
-  address : Address line count b true → ByRule line count b Inside (Keep b)
-  noAddress : Address line count b false → ByRule line count b Inside (Tell Addr)
+  address : Address station count b true → ByRule station count b Inside (Keep b)
+  noAddress : Address station count b false → ByRule station count b Inside (Tell Addr)
   -- 3
-  waits : Later line count → b ≡ 0xFF → ByRule line count b Inside Wait
-  plain : Later line count → special b ≡ false → count < mostContent → ByRule line count b Inside (Keep b)
-  pair : b ≤ 0x02 → count < mostContent → ByRule line count b Pending (Keep (0xFF - b))
-  noPair : 0x02 < b → (b ≡ start → ⊥) → ByRule line count b Pending (Tell Pair)
+  waits : Later station count → b ≡ 0xFF → ByRule station count b Inside Wait
+  plain : Later station count → special b ≡ false → count < mostContent → ByRule station count b Inside (Keep b)
+  pair : b ≤ 0x02 → count < mostContent → ByRule station count b Pending (Keep (0xFF - b))
+  noPair : 0x02 < b → (b ≡ start → ⊥) → ByRule station count b Pending (Tell Pair)
   -- 4
-  longPlain : Later line count → special b ≡ false → mostContent ≤ count → ByRule line count b Inside (Tell Long)
-  longPair : b ≤ 0x02 → mostContent ≤ count → ByRule line count b Pending (Tell Long)
+  longPlain : Later station count → special b ≡ false → mostContent ≤ count → ByRule station count b Inside (Tell Long)
+  longPair : b ≤ 0x02 → mostContent ≤ count → ByRule station count b Pending (Tell Long)
 
 -- 1, which event: behind fewer than 4 content bytes SHORT, otherwise behind a wrong check CHECK, otherwise FRAME; the last two carry what
 -- stands before the check

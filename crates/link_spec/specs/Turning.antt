@@ -6,8 +6,8 @@ use lib.Dec.{eqb, ltb, leb}
 use Rattle.wire_spec.specs.Limits.{mostContent}
 use Rattle.wire_spec.specs.Image.{start, stop}
 use Rattle.link_spec.specs.declared.event.Event.the-variants.{Long, Pair, Addr}
-use Rattle.link_spec.specs.declared.station.Line.{Line}
-use Rattle.link_spec.specs.declared.station.Line.the-variants.{Point, Addressed}
+use Rattle.link_spec.specs.declared.station.Station.{Station}
+use Rattle.link_spec.specs.declared.station.Station.the-variants.{Point, Addressed}
 use Rattle.link_spec.specs.declared.receiver.Phase.{Phase}
 use Rattle.link_spec.specs.declared.receiver.Phase.the-variants.{Outside, Inside, Pending}
 use Rattle.link_spec.specs.declared.receiver.Turn.{Turn}
@@ -28,20 +28,20 @@ partner count p = cond (leb p 0x02) (kept count (0xFF - p)) (Tell Pair)
 
 -- 2. on the addressed line the first byte after FD, before which there is no content byte, is the raw address, if neither FD nor FE; if
 -- this station does not take it, FF included: ADDR, at that byte
-unfoldable pub contentByte : Line → ℕ → ℕ → Turn
+unfoldable pub contentByte : Station → ℕ → ℕ → Turn
 contentByte Point count b = plain count b
-contentByte (Addressed station) count b = cond (eqb count 0) (cond (takes station b) (kept count b) (Tell Addr)) (plain count b)
+contentByte (Addressed own) count b = cond (eqb count 0) (cond (takes own b) (kept count b) (Tell Addr)) (plain count b)
 
 -- 1. FE ends the frame, unless it directly follows a pending FF
-unfoldable pub inside : Line → ℕ → ℕ → Turn
-inside line count b = cond (eqb b stop) Stop (contentByte line count b)
+unfoldable pub inside : Station → ℕ → ℕ → Turn
+inside station count b = cond (eqb b stop) Stop (contentByte station count b)
 
 -- outside a frame everything but FD is ignored; behind an FF a byte is its partner
-unfoldable pub within : Line → Phase → ℕ → ℕ → Turn
-within line Outside count b = Rest
-within line Inside count b = inside line count b
-within line Pending count b = partner count b
+unfoldable pub within : Station → Phase → ℕ → ℕ → Turn
+within station Outside count b = Rest
+within station Inside count b = inside station count b
+within station Pending count b = partner count b
 
 -- FD begins a frame from every state, also after FF and inside a frame
-unfoldable pub turn : Line → Phase → ℕ → ℕ → Turn
-turn line phase count b = cond (eqb b start) Begin (within line phase count b)
+unfoldable pub turn : Station → Phase → ℕ → ℕ → Turn
+turn station phase count b = cond (eqb b start) Begin (within station phase count b)

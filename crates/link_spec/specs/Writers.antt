@@ -8,36 +8,36 @@ use lib.Dec.{ltb}
 use lib.ListN.{length}
 use Rattle.ground.specs.declared.refusal.Refusal.the-variants.{NoRoom, TooLong, BadAddress}
 use Rattle.wire_spec.specs.Image.{image}
-use Rattle.wire_spec.specs.Writing.{After, refusing, putting, imageWritten}
+use Rattle.wire_spec.specs.Writing.{After, notWritten, putting, imageWritten}
 use Rattle.link_spec.specs.Limits.{mostData}
 use Rattle.link_spec.specs.Address.{isNever}
 use Rattle.link_spec.specs.Frame.{pointContent, addressedContent}
 
 -- 01, Refusal numbers, rows 2 and 3, and 'Order': writer 2, 3, 1; then the image
-unfoldable pub written : Bool → List ℕ → List ℕ → List ℕ → After
-written never «data» content out =
-    cond (ltb mostData (length «data»)) (refusing TooLong out)
-    (cond never (refusing BadAddress out) (imageWritten content out))
+unfoldable pub writtenUnless : Bool → List ℕ → List ℕ → List ℕ → After
+writtenUnless never «data» content out =
+    cond (ltb mostData (length «data»)) (notWritten TooLong out)
+    (cond never (notWritten BadAddress out) (imageWritten content out))
 
 -- a point frame has no address to refuse
 unfoldable pub pointWritten : ℕ → ℕ → List ℕ → List ℕ → After
-pointWritten identifier command «data» out = written false «data» (pointContent identifier command «data») out
+pointWritten identifier command «data» out = writtenUnless false «data» (pointContent identifier command «data») out
 
 -- an addressed frame is refused the addresses that are never one
 unfoldable pub addressedWritten : ℕ → ℕ → ℕ → List ℕ → List ℕ → After
 addressedWritten address identifier command «data» out =
-    written (isNever address) «data» (addressedContent address identifier command «data») out
+    writtenUnless (isNever address) «data» (addressedContent address identifier command «data») out
 
 -- The writer's rows of the refusal table, and the frame where no row applies. `Laws.Writers` proves that `written` answers by them,
 -- and that they leave it no other answer.
-pub data ByTable (never : Bool) («data» content out : List ℕ) : After → Type 0 where
-  tooLong : mostData < length «data» → ByTable never «data» content out (refusing TooLong out)
-  badAddress : length «data» ≤ mostData → never ≡ true → ByTable never «data» content out (refusing BadAddress out)
+pub data WriterTable (never : Bool) («data» content out : List ℕ) : After → Type 0 where
+  tooLong : mostData < length «data» → WriterTable never «data» content out (notWritten TooLong out)
+  badAddress : length «data» ≤ mostData → never ≡ true → WriterTable never «data» content out (notWritten BadAddress out)
   noRoom : length «data» ≤ mostData
       → never ≡ false
       → length out < length (image content)
-      → ByTable never «data» content out (refusing NoRoom out)
+      → WriterTable never «data» content out (notWritten NoRoom out)
   frame : length «data» ≤ mostData
       → never ≡ false
       → length (image content) ≤ length out
-      → ByTable never «data» content out (putting content out)
+      → WriterTable never «data» content out (putting content out)

@@ -14,8 +14,8 @@ pub use receiver::Receiver;
 pub use receiver::Turn;
 pub use station::BROADCAST;
 pub use station::LAST_ADDRESS;
-pub use station::Line;
 pub use station::MASTER;
+pub use station::Station;
 use wire_spec::MOST_CONTENT;
 
 // The fewest bytes of a frame's content: a frame with no data.

@@ -1,6 +1,6 @@
 // The receiver's record, and what its calls answer.
 use crate::event::Event;
-use crate::station::Line;
+use crate::station::Station;
 use ground::Refusal;
 use wire_spec::MOST_CONTENT;
 
@@ -24,7 +24,7 @@ pub enum Turn {
 
 // A receiver between two calls: its line, where it is, and the first `count` bytes of `content` as the content so far.
 pub struct Receiver {
-    pub line: Line,
+    pub station: Station,
     pub phase: Phase,
     pub count: usize,
     pub content: [u8; MOST_CONTENT],

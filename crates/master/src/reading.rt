@@ -12,7 +12,7 @@ use request::is_code;
 use request::length_of;
 ghost use mathlib.Core.Path.{_≡_};
 ghost use Rattle.request_spec.specs.Replies.{dataOf};
-ghost use Rattle.request_spec.specs.Reading.{telling, readingOf, isWrite, isNack, isDue, dataRead, signRead, readAs, replyRead};
+ghost use Rattle.request_spec.specs.Reading.{understood, readingOf, isWrite, isNack, isDue, dataRead, signRead, readAs, replyRead};
 
 const MOST_NACK: u8 = 6;
 
@@ -20,7 +20,7 @@ const MOST_NACK: u8 = 6;
 // with another identifier or none (WrongId), with another command, none or an echoed write (WrongCommand), with data of another length
 // (WrongLength), and a sign that is no answer to this request (WrongReason), in this order.
 pub fn read_reply(identifier: u8, code: u8, data: &[u8], reply: &[u8]) -> Reading
-    ensures { λ r. ⌜ telling (dataOf (now (reply .entry))) r ≡ replyRead identifier code (now («data» .entry)) (now (reply .entry)) ⌝ }
+    ensures { λ r. ⌜ understood (dataOf (now (reply .entry))) r ≡ replyRead identifier code (now («data» .entry)) (now (reply .entry)) ⌝ }
 {
     let acceptance = accept(code, data);
     match acceptance {
@@ -31,7 +31,7 @@ pub fn read_reply(identifier: u8, code: u8, data: &[u8], reply: &[u8]) -> Readin
 
 // The reply to this command.
 fn read_as(identifier: u8, code: u8, command: Command, reply: &[u8]) -> Reading
-    ensures { λ r. ⌜ telling (dataOf (now (reply .entry))) r ≡ readAs identifier code (now (reply .entry)) command ⌝ }
+    ensures { λ r. ⌜ understood (dataOf (now (reply .entry))) r ≡ readAs identifier code (now (reply .entry)) command ⌝ }
 {
     if reply.len() == 0 {
         return refused(Refusal::WrongId);
@@ -66,7 +66,7 @@ pub fn data_of(content: &[u8]) -> &[u8]
 
 // An ACK or a NACK, with this data.
 fn read_sign(command: Command, data: &[u8]) -> Reading
-    ensures { λ r. ⌜ telling (now («data» .entry)) r ≡ signRead command (now («data» .entry)) ⌝ }
+    ensures { λ r. ⌜ understood (now («data» .entry)) r ≡ signRead command (now («data» .entry)) ⌝ }
 {
     if data.len() != 1 {
         return refused(Refusal::WrongLength);
@@ -74,12 +74,12 @@ fn read_sign(command: Command, data: &[u8]) -> Reading
     let reason = data[0];
     if reason == ACK {
         if is_write(command) {
-            return meant(Meaning::Ack);
+            return says(Meaning::Ack);
         }
         return refused(Refusal::WrongReason);
     }
     if is_nack(reason) {
-        meant(Meaning::Nack(reason))
+        says(Meaning::Nack(reason))
     } else {
         refused(Refusal::WrongReason)
     }
@@ -109,10 +109,10 @@ fn is_nack(reason: u8) -> bool
 
 // The request's own command, with this data.
 fn read_data(command: Command, data: &[u8]) -> Reading
-    ensures { λ r. ⌜ telling (now («data» .entry)) r ≡ dataRead command (now («data» .entry)) ⌝ }
+    ensures { λ r. ⌜ understood (now («data» .entry)) r ≡ dataRead command (now («data» .entry)) ⌝ }
 {
     if is_due(command, data.len()) {
-        meant(Meaning::Data)
+        says(Meaning::Data)
     } else {
         refused(Refusal::WrongLength)
     }
@@ -131,7 +131,7 @@ fn is_due(command: Command, length: usize) -> bool
 }
 
 // A reply that says this.
-fn meant(meaning: Meaning) -> Reading
+fn says(meaning: Meaning) -> Reading
     ensures { λ r. ⌜ r ≡ readingOf Refusal.None meaning ⌝ }
 {
     Reading {

@@ -2,8 +2,8 @@
 mod asking;
 mod buffer;
 mod memory;
-mod record;
 mod reply;
+mod state;
 mod steps;
 mod values;
 
@@ -17,6 +17,6 @@ pub use reader_spec::Parameters;
 pub use reader_spec::Powered;
 pub use reader_spec::ROOM;
 pub use reader_spec::Reader;
-pub use record::fresh_reader;
-pub use record::power_on;
+pub use state::fresh_reader;
+pub use state::power_on;
 pub use steps::answer;

@@ -1,11 +1,11 @@
 // The call that does the steps of the point reader.
 use crate::asking::asked_by;
 use crate::memory::find;
-use crate::record::is_bad;
 use crate::reply::WRONG_CHECK;
 use crate::reply::write_nack;
 use crate::reply::write_reply;
-use crate::values::behind;
+use crate::state::is_bad;
+use crate::values::after_command;
 use ground::Refusal;
 use ground::put;
 use link::Event;
@@ -27,7 +27,7 @@ use request::nack_of;
 ghost use mathlib.Core.Path.{_≡_};
 ghost use mathlib.Core.Bool.{true};
 ghost use Rattle.link_spec.specs.Events.{named};
-ghost use Rattle.request_spec.specs.Acceptance.{Carries};
+ghost use Rattle.request_spec.specs.Acceptance.{FitsCommand};
 ghost use Rattle.reader_spec.specs.Asking.{asking as askingOf};
 ghost use Rattle.reader_spec.specs.Answering.{answering, answerOf, Lent, executed as executedOf, framed, isFront, fits as fitsOf, heeded, answered};
 
@@ -144,13 +144,13 @@ fn execute(
     store: &mut [u8],
     out: &mut [u8],
 ) -> Answer
-    requires { ⌜ Carries command (now «data») × Lent (now antenna) (now store) (now out) ⌝ }
+    requires { ⌜ FitsCommand command (now «data») × Lent (now antenna) (now store) (now out) ⌝ }
     ensures { λ r. ⌜ answering r (now (store .exit)) (now (out .exit)) ≡ executedOf reader header (now (antenna .entry)) (now (store .entry)) (now (out .entry)) identifier code (now («data» .entry)) command ⌝ }
 {
     let parameters = reader.parameters;
     let length = write_reply(parameters, identifier, code, command, header, antenna, out);
     put(&out[..length], store, 0);
-    let parameters = behind(parameters, command, data);
+    let parameters = after_command(parameters, command, data);
     let memory = Memory::Last {
         identifier,
         command: code,

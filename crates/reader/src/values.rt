@@ -7,13 +7,13 @@ use request::Parameter;
 use request::SETTINGS_LENGTH;
 ghost use mathlib.Core.Path.{_≡_};
 ghost use mathlib.Core.Bool.{true};
-ghost use Rattle.request_spec.specs.Parameters.{takes as takesOf};
-ghost use Rattle.request_spec.specs.Acceptance.{Carries};
+ghost use Rattle.request_spec.specs.Parameters.{isValueOf};
+ghost use Rattle.request_spec.specs.Acceptance.{FitsCommand};
 ghost use Rattle.reader_spec.specs.Parameters.{withValue, doneTo};
 
 // The parameters with this value of one of them.
 fn with_value(parameters: Parameters, parameter: Parameter, value: &[u8]) -> Parameters
-    requires { ⌜ takesOf parameter (now value) ≡ true ⌝ }
+    requires { ⌜ isValueOf parameter (now value) ≡ true ⌝ }
     ensures { λ r. ⌜ r ≡ withValue parameters parameter (now (value .entry)) ⌝ }
 {
     let speed = parameters.speed;
@@ -47,8 +47,8 @@ fn with_value(parameters: Parameters, parameter: Parameter, value: &[u8]) -> Par
 }
 
 // The parameters behind a command that came with this data.
-pub(crate) fn behind(parameters: Parameters, command: Command, data: &[u8]) -> Parameters
-    requires { ⌜ Carries command (now «data») ⌝ }
+pub(crate) fn after_command(parameters: Parameters, command: Command, data: &[u8]) -> Parameters
+    requires { ⌜ FitsCommand command (now «data») ⌝ }
     ensures { λ r. ⌜ r ≡ doneTo parameters command (now («data» .entry)) ⌝ }
 {
     match command {

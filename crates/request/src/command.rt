@@ -1,5 +1,5 @@
 // Which data each command accepts.
-use crate::parameter::takes;
+use crate::parameter::is_value_of;
 use crate::parameter::with_code;
 use request_spec::Acceptance;
 use request_spec::Card;
@@ -7,19 +7,19 @@ use request_spec::Coded;
 use request_spec::Command;
 use request_spec::Fault;
 ghost use mathlib.Core.Path.{_≡_};
-ghost use Rattle.request_spec.specs.Acceptance.{bare as bareOf, writing as writingOf, reading as readingOf, acceptance, nackOf, judgement};
+ghost use Rattle.request_spec.specs.Acceptance.{bareAccepted as bareOf, writeAccepted as writingOf, readAccepted as readingOf, acceptance, nackOf, judgement};
 
 // What this code asks for with this data.
 pub fn accept(code: u8, data: &[u8]) -> Acceptance
     ensures { λ r. ⌜ judgement r ≡ judgement (acceptance code (now («data» .entry))) ⌝ }
 {
     match code {
-        0x00 => bare(Command::Header, data),
-        0x01 => writing(data),
-        0x02 => reading(data),
-        0x10 => bare(Command::Card(Card::Marin), data),
-        0x14 => bare(Command::Card(Card::Hid), data),
-        0x18 => bare(Command::Card(Card::Motorola), data),
+        0x00 => accept_bare(Command::Header, data),
+        0x01 => accept_write(data),
+        0x02 => accept_read(data),
+        0x10 => accept_bare(Command::Card(Card::Marin), data),
+        0x14 => accept_bare(Command::Card(Card::Hid), data),
+        0x18 => accept_bare(Command::Card(Card::Motorola), data),
         _ => Acceptance::Refused(Fault::UnknownCode),
     }
 }
@@ -35,7 +35,7 @@ pub fn nack_of(fault: Fault) -> u8
 }
 
 // A command without data.
-fn bare(command: Command, data: &[u8]) -> Acceptance
+fn accept_bare(command: Command, data: &[u8]) -> Acceptance
     ensures { λ r. ⌜ r ≡ bareOf command (now («data» .entry)) ⌝ }
 {
     if data.len() == 0 {
@@ -46,7 +46,7 @@ fn bare(command: Command, data: &[u8]) -> Acceptance
 }
 
 // A parameter's code, then its value.
-fn writing(data: &[u8]) -> Acceptance
+fn accept_write(data: &[u8]) -> Acceptance
     ensures { λ r. ⌜ r ≡ writingOf (now («data» .entry)) ⌝ }
 {
     if data.len() == 0 {
@@ -56,7 +56,7 @@ fn writing(data: &[u8]) -> Acceptance
     let Coded::Known(parameter) = coded else {
         return Acceptance::Refused(Fault::BadData);
     };
-    if takes(parameter, &data[1..]) {
+    if is_value_of(parameter, &data[1..]) {
         Acceptance::Accepted(Command::Write(parameter))
     } else {
         Acceptance::Refused(Fault::BadData)
@@ -64,7 +64,7 @@ fn writing(data: &[u8]) -> Acceptance
 }
 
 // A parameter's code alone.
-fn reading(data: &[u8]) -> Acceptance
+fn accept_read(data: &[u8]) -> Acceptance
     ensures { λ r. ⌜ r ≡ readingOf (now («data» .entry)) ⌝ }
 {
     if data.len() != 1 {

@@ -4,7 +4,7 @@ use request_spec::Coded;
 use request_spec::Parameter;
 use request_spec::SETTINGS_LENGTH;
 ghost use mathlib.Core.Path.{_≡_};
-ghost use Rattle.request_spec.specs.Parameters.{parameterWith, lengthOf, isSpeed, takes as takesOf};
+ghost use Rattle.request_spec.specs.Parameters.{parameterWith, lengthOf, isSpeed, isValueOf};
 
 const LEAST_SPEED: u8 = 3;
 
@@ -44,8 +44,8 @@ pub fn is_speed(value: u8) -> bool
 }
 
 // Whether the parameter may be given this value.
-pub(crate) fn takes(parameter: Parameter, value: &[u8]) -> bool
-    ensures { λ r. ⌜ r ≡ takesOf parameter (now (value .entry)) ⌝ }
+pub(crate) fn is_value_of(parameter: Parameter, value: &[u8]) -> bool
+    ensures { λ r. ⌜ r ≡ isValueOf parameter (now (value .entry)) ⌝ }
 {
     if value.len() != length_of(parameter) {
         return false;

@@ -16,7 +16,7 @@ use Rattle.request_spec.specs.declared.command.Acceptance.{Acceptance}
 use Rattle.request_spec.specs.declared.command.Acceptance.the-variants.{Accepted, Refused}
 use Rattle.request_spec.specs.declared.command.Fault.{Fault}
 use Rattle.request_spec.specs.declared.command.Fault.the-variants.{UnknownCode, BadData}
-use Rattle.request_spec.specs.Parameters.{parameterCode, parameterWith, takes}
+use Rattle.request_spec.specs.Parameters.{parameterCode, parameterWith, isValueOf}
 
 -- the code of each command
 abbrev pub commandCode : Command → ℕ
@@ -28,28 +28,28 @@ commandCode (Card Hid) = 0x14
 commandCode (Card Motorola) = 0x18
 
 -- data accepted: none
-abbrev pub bare : Command → List ℕ → Acceptance
-bare command [] = Accepted command
-bare command (b ∷ more) = Refused BadData
+abbrev pub bareAccepted : Command → List ℕ → Acceptance
+bareAccepted command [] = Accepted command
+bareAccepted command (b ∷ more) = Refused BadData
 
 -- a parameter code, then a value of exactly its length; for 02 a value 3..10
-abbrev pub writingTo : Coded → List ℕ → Acceptance
-writingTo coded.Unknown value = Refused BadData
-writingTo (coded.Known p) value = cond (takes p value) (Accepted (Write p)) (Refused BadData)
+abbrev pub writeAcceptedTo : Coded → List ℕ → Acceptance
+writeAcceptedTo coded.Unknown value = Refused BadData
+writeAcceptedTo (coded.Known p) value = cond (isValueOf p value) (Accepted (Write p)) (Refused BadData)
 
-abbrev pub writing : List ℕ → Acceptance
-writing [] = Refused BadData
-writing (code ∷ value) = writingTo (parameterWith code) value
+abbrev pub writeAccepted : List ℕ → Acceptance
+writeAccepted [] = Refused BadData
+writeAccepted (code ∷ value) = writeAcceptedTo (parameterWith code) value
 
 -- one existing parameter code
-abbrev pub readingFrom : Coded → Acceptance
-readingFrom coded.Unknown = Refused BadData
-readingFrom (coded.Known p) = Accepted (Read p)
+abbrev pub readAcceptedFrom : Coded → Acceptance
+readAcceptedFrom coded.Unknown = Refused BadData
+readAcceptedFrom (coded.Known p) = Accepted (Read p)
 
-abbrev pub reading : List ℕ → Acceptance
-reading [] = Refused BadData
-reading (code ∷ []) = readingFrom (parameterWith code)
-reading (code ∷ b ∷ more) = Refused BadData
+abbrev pub readAccepted : List ℕ → Acceptance
+readAccepted [] = Refused BadData
+readAccepted (code ∷ []) = readAcceptedFrom (parameterWith code)
+readAccepted (code ∷ b ∷ more) = Refused BadData
 
 -- the codes that exist
 abbrev pub isKnown : ℕ → Bool
@@ -58,12 +58,12 @@ isKnown code = eqb code 0x00 || (eqb code 0x01 || (eqb code 0x02 || (eqb code 0x
 -- the table, code by code
 unfoldable pub acceptance : ℕ → List ℕ → Acceptance
 acceptance code «data» =
-    cond (eqb code 0x00) (bare Header «data»)
-    (cond (eqb code 0x01) (writing «data»)
-    (cond (eqb code 0x02) (reading «data»)
-    (cond (eqb code 0x10) (bare (Card Marin) «data»)
-    (cond (eqb code 0x14) (bare (Card Hid) «data»)
-    (cond (eqb code 0x18) (bare (Card Motorola) «data») (Refused UnknownCode))))))
+    cond (eqb code 0x00) (bareAccepted Header «data»)
+    (cond (eqb code 0x01) (writeAccepted «data»)
+    (cond (eqb code 0x02) (readAccepted «data»)
+    (cond (eqb code 0x10) (bareAccepted (Card Marin) «data»)
+    (cond (eqb code 0x14) (bareAccepted (Card Hid) «data»)
+    (cond (eqb code 0x18) (bareAccepted (Card Motorola) «data») (Refused UnknownCode))))))
 
 -- the NACK that a reader answers instead: unknown code: NACK 2 (step 4); data not acceptable: NACK 3 (step 5)
 abbrev pub nackOf : Fault → ℕ
@@ -88,17 +88,17 @@ isAccepted (Accepted command) = true
 isAccepted (Refused fault) = false
 
 -- data that a command was accepted with: of a write's, what stands behind the parameter's code is a value that the parameter takes
-abbrev pub Carries : Command → List ℕ → Type 0
-Carries Header «data» = Unit {0}
-Carries (Write p) «data» = (1 ≤ length «data») × (takes p (drop 1 «data») ≡ true)
-Carries (Read p) «data» = Unit {0}
-Carries (Card card) «data» = Unit {0}
+abbrev pub FitsCommand : Command → List ℕ → Type 0
+FitsCommand Header «data» = Unit {0}
+FitsCommand (Write p) «data» = (1 ≤ length «data») × (isValueOf p (drop 1 «data») ≡ true)
+FitsCommand (Read p) «data» = Unit {0}
+FitsCommand (Card card) «data» = Unit {0}
 
 -- The first two columns of the table of 01, row by row. `Laws.Acceptance` proves that these are the codes and data that `acceptance`
 -- accepts, and that it accepts no other.
 pub data Accepts : ℕ → List ℕ → Command → Type 0 where
   header : Accepts 0x00 [] Header
-  write : (p : Parameter) (value : List ℕ) → takes p value ≡ true → Accepts 0x01 (parameterCode p ∷ value) (Write p)
+  write : (p : Parameter) (value : List ℕ) → isValueOf p value ≡ true → Accepts 0x01 (parameterCode p ∷ value) (Write p)
   read : (p : Parameter) → Accepts 0x02 (parameterCode p ∷ []) (Read p)
   marin : Accepts 0x10 [] (Card Marin)
   hid : Accepts 0x14 [] (Card Hid)

@@ -8,7 +8,7 @@ use mathlib.Core.List.{List, [], _∷_, _++_}
 use mathlib.Core.Option.{Option, none, some}
 use lib.ListN.{replicate}
 use Rattle.ground.specs.declared.refusal.Refusal.the-variants.{BadRequest}
-use Rattle.wire_spec.specs.Writing.{refusing}
+use Rattle.wire_spec.specs.Writing.{notWritten}
 use Rattle.request_spec.specs.declared.command.Card.{Card}
 use Rattle.request_spec.specs.declared.command.Card.the-variants.{Motorola}
 use Rattle.request_spec.specs.Cards.{isCode, codeNumber}
@@ -34,7 +34,7 @@ pub data Example : Type 0 where
 
 abbrev pub Holds : Example → Type 0
 Holds (accepts code «data») = isAccepted (acceptance code «data») ≡ true
-Holds (badRequest identifier code «data» out) = requestWritten identifier code «data» out ≡ refusing BadRequest out
+Holds (badRequest identifier code «data» out) = requestWritten identifier code «data» out ≡ notWritten BadRequest out
 Holds (codes card count is) = isCode card count ≡ is
 Holds (stands code number) = codeNumber code ≡ number
 Holds (lays name kind version protocol serial flags printed) = header name kind version protocol serial flags ≡ printed

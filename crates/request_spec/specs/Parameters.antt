@@ -40,5 +40,5 @@ within Settings value = true
 within Cell value = true
 
 -- a value of exactly its length; for 02 a value 3..10
-unfoldable pub takes : Parameter → List ℕ → Bool
-takes p value = eqb (length value) (lengthOf p) && within p value
+unfoldable pub isValueOf : Parameter → List ℕ → Bool
+isValueOf p value = eqb (length value) (lengthOf p) && within p value

@@ -24,28 +24,28 @@ use Rattle.request_spec.specs.Acceptance.{acceptance, isAccepted}
 use Rattle.request_spec.specs.Replies.{Reply, ACK, NACK, DATA, sign, identifierOf, commandOf, dataOf, ackByte}
 
 -- what each case means where the reply has this data; none where the call refused
-abbrev pub meant : List ℕ → Meaning → Option Reply
-meant «data» meaning.None = none
-meant «data» meaning.Ack = some ACK
-meant «data» (meaning.Nack n) = some (NACK n)
-meant «data» meaning.Data = some (DATA «data»)
+abbrev pub asReply : List ℕ → Meaning → Option Reply
+asReply «data» meaning.None = none
+asReply «data» meaning.Ack = some ACK
+asReply «data» (meaning.Nack n) = some (NACK n)
+asReply «data» meaning.Data = some (DATA «data»)
 
 -- a call's result in the paper's numbers and words
-pub record Outcome : Type 0 where
+pub record Understood : Type 0 where
   pub refusal : ℕ
   pub meaning : Option Reply
 
-abbrev pub telling : List ℕ → Reading → Outcome
-telling «data» r = record { refusal = number (r .refusal); meaning = meant «data» (r .meaning) }
+abbrev pub understood : List ℕ → Reading → Understood
+understood «data» r = record { refusal = number (r .refusal); meaning = asReply «data» (r .meaning) }
 
 abbrev pub readingOf : Refusal → Meaning → Reading
 readingOf why meaning = record { refusal = why; meaning = meaning }
 
-abbrev pub refusing : Refusal → Outcome
-refusing why = record { refusal = number why; meaning = none }
+abbrev pub notRead : Refusal → Understood
+notRead why = record { refusal = number why; meaning = none }
 
-abbrev pub accepting : Reply → Outcome
-accepting reply = record { refusal = 0; meaning = some reply }
+abbrev pub hasRead : Reply → Understood
+hasRead reply = record { refusal = 0; meaning = some reply }
 
 -- ACK answers 01 only
 abbrev pub isWrite : Command → Bool
@@ -62,22 +62,22 @@ isDue (Read p) n = eqb n (lengthOf p)
 isDue (Card card) n = isCode card n
 
 -- row 8: data length not as above
-unfoldable pub dataRead : Command → List ℕ → Outcome
-dataRead command «data» = cond (isDue command (length «data»)) (accepting (DATA «data»)) (refusing WrongLength)
+unfoldable pub dataRead : Command → List ℕ → Understood
+dataRead command «data» = cond (isDue command (length «data»)) (hasRead (DATA «data»)) (notRead WrongLength)
 
 -- NACK with number 1..6
 abbrev pub isNack : ℕ → Bool
 isNack reason = leb 1 reason && leb reason 6
 
 -- row 9: 2A byte not 55 or 1..6, or 55 where data was due
-unfoldable pub reasonRead : Command → ℕ → Outcome
+unfoldable pub reasonRead : Command → ℕ → Understood
 reasonRead command reason =
-    cond (eqb reason ackByte) (cond (isWrite command) (accepting ACK) (refusing WrongReason))
-    (cond (isNack reason) (accepting (NACK reason)) (refusing WrongReason))
+    cond (eqb reason ackByte) (cond (isWrite command) (hasRead ACK) (notRead WrongReason))
+    (cond (isNack reason) (hasRead (NACK reason)) (notRead WrongReason))
 
 -- row 8: for 2A not one byte
-unfoldable pub signRead : Command → List ℕ → Outcome
-signRead command «data» = cond (eqb (length «data») 1) (reasonRead command (getD «data» 0 0)) (refusing WrongLength)
+unfoldable pub signRead : Command → List ℕ → Understood
+signRead command «data» = cond (eqb (length «data») 1) (reasonRead command (getD «data» 0 0)) (notRead WrongLength)
 
 -- that byte
 abbrev pub reason : List ℕ → ℕ
@@ -95,18 +95,18 @@ abbrev pub wrongCommand : ℕ → List ℕ → Bool
 wrongCommand code reply = eqb (length reply) 1 || not (isSign reply || eqb (commandOf reply) code && not (eqb code 0x01))
 
 -- 'Order': 6, 7, 8, 9
-unfoldable pub readAs : ℕ → ℕ → List ℕ → Command → Outcome
+unfoldable pub readAs : ℕ → ℕ → List ℕ → Command → Understood
 readAs identifier code reply command =
-    cond (wrongId identifier reply) (refusing WrongId)
-    (cond (wrongCommand code reply) (refusing WrongCommand)
+    cond (wrongId identifier reply) (notRead WrongId)
+    (cond (wrongCommand code reply) (notRead WrongCommand)
     (cond (isSign reply) (signRead command (dataOf reply)) (dataRead command (dataOf reply))))
 
 -- and before them row 5: a request that step 4 or 5 would refuse
-abbrev pub readBy : ℕ → ℕ → List ℕ → Acceptance → Outcome
+abbrev pub readBy : ℕ → ℕ → List ℕ → Acceptance → Understood
 readBy identifier code reply (Accepted command) = readAs identifier code reply command
-readBy identifier code reply (Refused fault) = refusing BadRequest
+readBy identifier code reply (Refused fault) = notRead BadRequest
 
-unfoldable pub replyRead : ℕ → ℕ → List ℕ → List ℕ → Outcome
+unfoldable pub replyRead : ℕ → ℕ → List ℕ → List ℕ → Understood
 replyRead identifier code «data» reply = readBy identifier code reply (acceptance code «data»)
 
 -- the request is this command, and no row up to 7 refuses the reply
@@ -121,45 +121,45 @@ Signed identifier code «data» reply command =
 
 -- The master's rows of the refusal table, and the reply where no row applies. `Laws.Reading` proves that `replyRead` answers by them,
 -- and that they leave it no other answer.
-pub data ByTable (identifier code : ℕ) («data» reply : List ℕ) : Outcome → Type 0 where
-  request : isAccepted (acceptance code «data») ≡ false → ByTable identifier code «data» reply (refusing BadRequest)
+pub data MasterTable (identifier code : ℕ) («data» reply : List ℕ) : Understood → Type 0 where
+  request : isAccepted (acceptance code «data») ≡ false → MasterTable identifier code «data» reply (notRead BadRequest)
   -- reply identifier differs, or the content is empty
   identity : {command : Command} → acceptance code «data» ≡ Accepted command
       → wrongId identifier reply ≡ true
-      → ByTable identifier code «data» reply (refusing WrongId)
+      → MasterTable identifier code «data» reply (notRead WrongId)
   -- command byte absent, or neither 2A nor the request's, or 01 echoed
   otherCommand : {command : Command} → acceptance code «data» ≡ Accepted command
       → wrongId identifier reply ≡ false
       → wrongCommand code reply ≡ true
-      → ByTable identifier code «data» reply (refusing WrongCommand)
+      → MasterTable identifier code «data» reply (notRead WrongCommand)
   -- for 2A not one byte; data length not as above
   signLength : {command : Command} → Heeded identifier code «data» reply command
       → isSign reply ≡ true
       → eqb (length (dataOf reply)) 1 ≡ false
-      → ByTable identifier code «data» reply (refusing WrongLength)
+      → MasterTable identifier code «data» reply (notRead WrongLength)
   dataLength : {command : Command} → Heeded identifier code «data» reply command
       → isSign reply ≡ false
       → isDue command (length (dataOf reply)) ≡ false
-      → ByTable identifier code «data» reply (refusing WrongLength)
+      → MasterTable identifier code «data» reply (notRead WrongLength)
   -- 55 where data was due; 2A byte not 55 or 1..6
   ackDue : {command : Command} → Signed identifier code «data» reply command
       → eqb (reason reply) ackByte ≡ true
       → isWrite command ≡ false
-      → ByTable identifier code «data» reply (refusing WrongReason)
+      → MasterTable identifier code «data» reply (notRead WrongReason)
   noReason : {command : Command} → Signed identifier code «data» reply command
       → eqb (reason reply) ackByte ≡ false
       → isNack (reason reply) ≡ false
-      → ByTable identifier code «data» reply (refusing WrongReason)
+      → MasterTable identifier code «data» reply (notRead WrongReason)
   -- ACK, NACK with number 1..6, or data
   ack : {command : Command} → Signed identifier code «data» reply command
       → eqb (reason reply) ackByte ≡ true
       → isWrite command ≡ true
-      → ByTable identifier code «data» reply (accepting ACK)
+      → MasterTable identifier code «data» reply (hasRead ACK)
   nack : {command : Command} → Signed identifier code «data» reply command
       → eqb (reason reply) ackByte ≡ false
       → isNack (reason reply) ≡ true
-      → ByTable identifier code «data» reply (accepting (NACK (reason reply)))
+      → MasterTable identifier code «data» reply (hasRead (NACK (reason reply)))
   bytes : {command : Command} → Heeded identifier code «data» reply command
       → isSign reply ≡ false
       → isDue command (length (dataOf reply)) ≡ true
-      → ByTable identifier code «data» reply (accepting (DATA (dataOf reply)))
+      → MasterTable identifier code «data» reply (hasRead (DATA (dataOf reply)))

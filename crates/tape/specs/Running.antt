@@ -8,9 +8,9 @@ use lib.ListN.{length, take}
 use Rattle.ground.specs.Laying.{laid}
 use Rattle.link_spec.specs.declared.receiver.Receiver.{Receiver}
 use Rattle.link_spec.specs.Receiving.{received}
-use Rattle.tape_spec.specs.declared.tape.Side.{Side}
+use Rattle.tape_spec.specs.declared.tape.Line.{Line}
 use Rattle.tape_spec.specs.Limits.{leastRoom, mostRecords}
-use Rattle.tape_spec.specs.Rows.{brought}
+use Rattle.tape_spec.specs.Rows.{heardRow}
 use Rattle.tape_spec.specs.Whole.{kindOf}
 use Rattle.tape.specs.declared.run.Ran.{Ran}
 
@@ -47,12 +47,12 @@ abbrev pub resting : Receiver → Run
 resting s = record { receiver = s; count = 0; text = [] }
 
 -- one by one, from behind so many records on, while there is room for the longest line
-unfoldable pub running : ℕ → Side → ℕ → Receiver → List ℕ → Run
-running room side n s [] = resting s
-running room side n s (b ∷ bs) =
+unfoldable pub running : ℕ → Line → ℕ → Receiver → List ℕ → Run
+running room line n s [] = resting s
+running room line n s (b ∷ bs) =
     let said = received s (b ∷ []) in
-    let text = brought n side said in
-    let more = running (room - length text) side (n + 1) (said .receiver) bs in
+    let text = heardRow n line said in
+    let more = running (room - length text) line (n + 1) (said .receiver) bs in
     cond (ltb room leastRoom) (resting s)
     (record { receiver = more .receiver; count = 1 + more .count; text = text ++ more .text })
 
@@ -66,11 +66,11 @@ pub record Left : Type 0 where
 abbrev pub left : Ran → List ℕ → Left
 left r out = record { receiver = r .receiver; count = r .count; end = r .end; out = out }
 
-abbrev pub leaving : Run → List ℕ → ℕ → Left
-leaving w out at = record { receiver = w .receiver; count = w .count; end = at + length (w .text); out = laid out at (w .text) }
+abbrev pub runLeft : Run → List ℕ → ℕ → Left
+runLeft w out at = record { receiver = w .receiver; count = w .count; end = at + length (w .text); out = laid out at (w .text) }
 
 -- the bodies at a chunk's front were heard, from behind so many records on
-pub record Heard (side : Side) (s : Receiver) (records : ℕ) (chunk out : List ℕ) (at : ℕ) (after : Left) : Type 0 where
+pub record RunHeard (line : Line) (s : Receiver) (records : ℕ) (chunk out : List ℕ) (at : ℕ) (after : Left) : Type 0 where
   pub bodies : List ℕ
-  pub gathered : Gathered (kindOf side) (mostRecords - records) chunk bodies
-  pub ran : after ≡ leaving (running (length out - at) side records s bodies) out at
+  pub gathered : Gathered (kindOf line) (mostRecords - records) chunk bodies
+  pub ran : after ≡ runLeft (running (length out - at) line records s bodies) out at

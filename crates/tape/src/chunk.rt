@@ -1,9 +1,9 @@
 // A tape's listing, chunk by chunk.
 use crate::kind::after_kind;
-use crate::receivers::on;
-use crate::receivers::turned;
-use crate::record::is_bad;
+use crate::receivers::receiver_on;
+use crate::receivers::with_receiver;
 use crate::run::run;
+use crate::state::is_bad;
 use ground::Refusal;
 use ground::room;
 use tape_spec::LEAST_ROOM;
@@ -17,7 +17,7 @@ ghost use mathlib.Core.List.{[]};
 ghost use Prim.Native.Nat.{_≤_};
 ghost use lib.ListN.{length};
 ghost use Rattle.tape_spec.specs.Limits.{leastRoom};
-ghost use Rattle.tape_spec.specs.Taping.{being, badTape, told, refusing, answering, writing, going, listed};
+ghost use Rattle.tape_spec.specs.Taping.{tapeOf, badTape, listedOut, notListed, listedTo, textWritten, going, listed};
 
 // Records that are heard together at most.
 const MOST_RUN: usize = 128;
@@ -26,7 +26,7 @@ const MOST_RUN: usize = 128;
 // left, and where nothing further is read. Refuses a receiver that the link refuses and a body behind the last permitted record
 // (BadState), and an `out` under LEAST_ROOM (NoRoom), and then leaves tape and buffer as they were.
 pub fn list(tape: Tape, chunk: &[u8], out: &mut [u8]) -> Listed
-    ensures { λ r. ⌜ told r (now (out .exit)) ≡ listed tape (now (chunk .entry)) (now (out .entry)) ⌝ }
+    ensures { λ r. ⌜ listedOut r (now (out .exit)) ≡ listed tape (now (chunk .entry)) (now (out .entry)) ⌝ }
 {
     if is_bad(tape) {
         return refused(Refusal::BadState, tape);
@@ -41,7 +41,7 @@ pub fn list(tape: Tape, chunk: &[u8], out: &mut [u8]) -> Listed
 fn go(tape: Tape, chunk: &[u8], out: &mut [u8]) -> Listed
     requires { ⌜ badTape tape ≡ false ⌝ }
     requires { ⌜ leastRoom ≤ length (now out) ⌝ }
-    ensures { λ r. ⌜ told r (now (out .exit)) ≡ writing (going (length (now (out .entry))) tape (now (chunk .entry))) (now (out .entry)) ⌝ }
+    ensures { λ r. ⌜ listedOut r (now (out .exit)) ≡ textWritten (going (length (now (out .entry))) tape (now (chunk .entry))) (now (out .entry)) ⌝ }
 {
     let mut records = tape.records;
     let mut next = tape.next;
@@ -55,11 +55,11 @@ fn go(tape: Tape, chunk: &[u8], out: &mut [u8]) -> Listed
                 next = after_kind(records, chunk[taken]);
                 taken += 1;
             }
-            Next::Body(side) => {
-                let receiver = on(receivers, side);
+            Next::Body(line) => {
+                let receiver = receiver_on(receivers, line);
                 let rest = &chunk[taken..];
-                let ran = run(side, receiver, records, rest, &mut piece, out, written);
-                receivers = turned(receivers, side, ran.receiver);
+                let ran = run(line, receiver, records, rest, &mut piece, out, written);
+                receivers = with_receiver(receivers, line, ran.receiver);
                 records += ran.count as u32;
                 taken += 2 * ran.count - 1;
                 written = ran.end;
@@ -74,7 +74,7 @@ fn go(tape: Tape, chunk: &[u8], out: &mut [u8]) -> Listed
 
 // What a call answers that stopped here.
 fn stopped(records: u32, next: Next, receivers: Receivers, taken: usize, written: usize) -> Listed
-    ensures { λ r. ⌜ told r [] ≡ answering (being records next receivers) taken written [] ⌝ }
+    ensures { λ r. ⌜ listedOut r [] ≡ listedTo (tapeOf records next receivers) taken written [] ⌝ }
 {
     let tape = Tape {
         records,
@@ -91,7 +91,7 @@ fn stopped(records: u32, next: Next, receivers: Receivers, taken: usize, written
 
 // What a refused call answers.
 fn refused(refusal: Refusal, tape: Tape) -> Listed
-    ensures { λ r. ⌜ told r [] ≡ refusing refusal tape [] ⌝ }
+    ensures { λ r. ⌜ listedOut r [] ≡ notListed refusal tape [] ⌝ }
 {
     Listed {
         refusal,

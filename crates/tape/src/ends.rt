@@ -8,8 +8,8 @@ use tape_spec::Tape;
 use text::put_decimal;
 ghost use mathlib.Core.Path.{_≡_};
 ghost use Rattle.ground.specs.Laying.{ended, put as putOf};
-ghost use Rattle.tape_spec.specs.Rows.{headerLine, word as wordOf, lastLine};
-ghost use Rattle.tape_spec.specs.Taping.{ending as endingOf, lastOf};
+ghost use Rattle.tape_spec.specs.Rows.{headerRow, word as wordOf, lastRow};
+ghost use Rattle.tape_spec.specs.Taping.{ending as endingOf, lastRowOf};
 ghost use Rattle.tape.specs.Words.{Spells};
 
 // Places for the longest last line: a word of 4 letters, a blank, 10 digits and the line's end.
@@ -17,14 +17,14 @@ const MOST_LAST: usize = 16;
 
 // Writes the header line to the front of `out`. Refuses an `out` that is shorter (NoRoom).
 pub fn write_header(out: &mut [u8]) -> Placed
-    ensures { λ r. ⌜ ended r (now (out .exit)) ≡ putOf headerLine (now (out .entry)) 0 ⌝ }
+    ensures { λ r. ⌜ ended r (now (out .exit)) ≡ putOf headerRow (now (out .entry)) 0 ⌝ }
 {
     put(b"record line event content\n", out, 0)
 }
 
 // Writes the last line of a tape that ends here to the front of `out`. Refuses an `out` that is shorter (NoRoom).
 pub fn write_last(tape: Tape, out: &mut [u8]) -> Placed
-    ensures { λ r. ⌜ ended r (now (out .exit)) ≡ putOf (lastOf tape) (now (out .entry)) 0 ⌝ }
+    ensures { λ r. ⌜ ended r (now (out .exit)) ≡ putOf (lastRowOf tape) (now (out .entry)) 0 ⌝ }
 {
     let next = tape.next;
     let ending = ending(next);
@@ -37,7 +37,7 @@ fn ending(next: Next) -> Ending
 {
     match next {
         Next::Kind => Ending::End,
-        Next::Body(_side) => Ending::Cut,
+        Next::Body(_line) => Ending::Cut,
         Next::Bad => Ending::Bad,
         Next::Full => Ending::Full,
     }
@@ -45,17 +45,17 @@ fn ending(next: Next) -> Ending
 
 // Writes the last row, of a tape that ends like this after so many records, to the front of `out`.
 fn write_ending(ending: Ending, records: u32, out: &mut [u8]) -> Placed
-    ensures { λ r. ⌜ ended r (now (out .exit)) ≡ putOf (lastLine ending records) (now (out .entry)) 0 ⌝ }
+    ensures { λ r. ⌜ ended r (now (out .exit)) ≡ putOf (lastRow ending records) (now (out .entry)) 0 ⌝ }
 {
-    let mut line = [0u8; MOST_LAST];
+    let mut row = [0u8; MOST_LAST];
     let word = word(ending);
     let letters = word.letters;
     let length = word.length;
-    let said = put(&letters[..length], &mut line, 0);
-    let counted = put_decimal(records as u64, &mut line, said.end);
-    let ended = put(b"\n", &mut line, counted.end);
+    let said = put(&letters[..length], &mut row, 0);
+    let counted = put_decimal(records as u64, &mut row, said.end);
+    let ended = put(b"\n", &mut row, counted.end);
     let length = ended.end;
-    put(&line[..length], out, 0)
+    put(&row[..length], out, 0)
 }
 
 const END: Word = Word {

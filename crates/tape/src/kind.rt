@@ -1,35 +1,35 @@
 // The kinds of a tape's records: one byte heard on the point line, and one heard on an addressed line by its master.
+use tape_spec::Line;
 use tape_spec::MOST_RECORDS;
 use tape_spec::Next;
-use tape_spec::Side;
 ghost use mathlib.Core.Path.{_≡_};
 ghost use Rattle.tape_spec.specs.Whole.{kindOf};
-ghost use Rattle.tape_spec.specs.Taping.{behindKind};
+ghost use Rattle.tape_spec.specs.Taping.{afterKind};
 
 const POINT: u8 = 0x01;
 
 const ADDRESSED: u8 = 0x02;
 
 // The kind of a side's records.
-pub(crate) fn kind_of(side: Side) -> u8
-    ensures { λ r. ⌜ r ≡ kindOf side ⌝ }
+pub(crate) fn kind_of(line: Line) -> u8
+    ensures { λ r. ⌜ r ≡ kindOf line ⌝ }
 {
-    match side {
-        Side::Point => POINT,
-        Side::Addressed => ADDRESSED,
+    match line {
+        Line::Point => POINT,
+        Line::Addressed => ADDRESSED,
     }
 }
 
 // What follows a kind byte that comes after so many whole records.
 pub(crate) fn after_kind(records: u32, kind: u8) -> Next
-    ensures { λ r. ⌜ r ≡ behindKind records kind ⌝ }
+    ensures { λ r. ⌜ r ≡ afterKind records kind ⌝ }
 {
     if records == MOST_RECORDS {
         return Next::Full;
     }
     match kind {
-        POINT => Next::Body(Side::Point),
-        ADDRESSED => Next::Body(Side::Addressed),
+        POINT => Next::Body(Line::Point),
+        ADDRESSED => Next::Body(Line::Addressed),
         _ => Next::Bad,
     }
 }

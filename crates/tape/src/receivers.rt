@@ -4,10 +4,10 @@ use link::Receiver;
 use link::fresh_addressed;
 use link::fresh_point;
 use link::is_bad_state;
+use tape_spec::Line;
 use tape_spec::Receivers;
-use tape_spec::Side;
 ghost use mathlib.Core.Path.{_≡_};
-ghost use Rattle.tape_spec.specs.Whole.{freshReceivers, on as onSide, turned as turnedOn};
+ghost use Rattle.tape_spec.specs.Whole.{freshReceivers, receiverOn as onSide, withReceiver as turnedOn};
 ghost use Rattle.tape_spec.specs.Taping.{badReceivers};
 
 pub(crate) fn fresh_receivers() -> Receivers
@@ -22,28 +22,28 @@ pub(crate) fn fresh_receivers() -> Receivers
 }
 
 // The receiver of a side.
-pub(crate) fn on(receivers: Receivers, side: Side) -> Receiver
-    ensures { λ r. ⌜ r ≡ onSide side receivers ⌝ }
+pub(crate) fn receiver_on(receivers: Receivers, line: Line) -> Receiver
+    ensures { λ r. ⌜ r ≡ onSide line receivers ⌝ }
 {
-    match side {
-        Side::Point => receivers.point,
-        Side::Addressed => receivers.addressed,
+    match line {
+        Line::Point => receivers.point,
+        Line::Addressed => receivers.addressed,
     }
 }
 
 // With another receiver on a side.
-pub(crate) fn turned(receivers: Receivers, side: Side, receiver: Receiver) -> Receivers
-    ensures { λ r. ⌜ r ≡ turnedOn side receiver receivers ⌝ }
+pub(crate) fn with_receiver(receivers: Receivers, line: Line, receiver: Receiver) -> Receivers
+    ensures { λ r. ⌜ r ≡ turnedOn line receiver receivers ⌝ }
 {
-    match side {
-        Side::Point => {
+    match line {
+        Line::Point => {
             let addressed = receivers.addressed;
             Receivers {
                 point: receiver,
                 addressed,
             }
         }
-        Side::Addressed => {
+        Line::Addressed => {
             let point = receivers.point;
             Receivers {
                 point,

@@ -5,7 +5,7 @@ use ground::Refusal;
 use ground::put;
 use link::Event;
 use link::Heard;
-use tape_spec::Side;
+use tape_spec::Line;
 use text::put_decimal;
 use text::put_pairs;
 ghost use mathlib.Core.Path.{_≡_};
@@ -16,14 +16,14 @@ ghost use Rattle.wire_spec.specs.Limits.{mostContent};
 ghost use Rattle.link_spec.specs.Events.{named};
 ghost use Rattle.link_spec.specs.Receiving.{saying};
 ghost use Rattle.tape_spec.specs.Limits.{leastRoom};
-ghost use Rattle.tape_spec.specs.Rows.{letter as letterOf, line, nameOf, brought};
+ghost use Rattle.tape_spec.specs.Rows.{letter as letterOf, row, nameOf, heardRow};
 ghost use Rattle.tape.specs.Words.{Spells};
 
 // Puts the row of what a receiver heard into `out` from the place `at` on; none where nothing happened. There is room for the longest row.
-pub(crate) fn put_heard(number: u32, side: Side, heard: Heard, out: &mut [u8], at: usize) -> Placed
+pub(crate) fn put_heard(number: u32, line: Line, heard: Heard, out: &mut [u8], at: usize) -> Placed
     requires { ⌜ heard .length ≤ mostContent ⌝ }
     requires { ⌜ leastRoom ≤ length (now out) - at ⌝ }
-    ensures { λ r. ⌜ ended r (now (out .exit)) ≡ placed (brought number side (saying heard)) (now (out .entry)) at ⌝ }
+    ensures { λ r. ⌜ ended r (now (out .exit)) ≡ placed (heardRow number line (saying heard)) (now (out .entry)) at ⌝ }
 {
     let event = heard.event;
     let content = heard.content;
@@ -33,15 +33,15 @@ pub(crate) fn put_heard(number: u32, side: Side, heard: Heard, out: &mut [u8], a
             refusal: Refusal::None,
             end: at,
         },
-        Event::Frame => put_line(number, side, event, &content[..length], out, at),
-        _ => put_line(number, side, event, &content[..0], out, at),
+        Event::Frame => put_row(number, line, event, &content[..length], out, at),
+        _ => put_row(number, line, event, &content[..0], out, at),
     }
 }
 
 // Puts a line with the name of an event, and the content that it shows.
-fn put_line(
+fn put_row(
     number: u32,
-    side: Side,
+    line: Line,
     event: Event,
     content: &[u8],
     out: &mut [u8],
@@ -50,10 +50,10 @@ fn put_line(
     requires { ⌜ length (now content) ≤ mostContent ⌝ }
     requires { ⌜ leastRoom ≤ length (now out) - at ⌝ }
     ensures { λ r. ⌜ ended r (now (out .exit))
-        ≡ placed (line number side (nameOf (named event)) (now (content .entry))) (now (out .entry)) at ⌝ }
+        ≡ placed (row number line (nameOf (named event)) (now (content .entry))) (now (out .entry)) at ⌝ }
 {
     let counted = put_decimal(number as u64, out, at);
-    let lettered = put(&letter(side), out, counted.end);
+    let lettered = put(&letter(line), out, counted.end);
     let name = name(event);
     let letters = name.letters;
     let length = name.length;
@@ -67,12 +67,12 @@ const POINT: [u8; 3] = *b" P ";
 const ADDRESSED: [u8; 3] = *b" A ";
 
 // P or A, between blanks.
-fn letter(side: Side) -> [u8; 3]
-    ensures { λ r. ⌜ r ≡ letterOf side ⌝ }
+fn letter(line: Line) -> [u8; 3]
+    ensures { λ r. ⌜ r ≡ letterOf line ⌝ }
 {
-    match side {
-        Side::Point => POINT,
-        Side::Addressed => ADDRESSED,
+    match line {
+        Line::Point => POINT,
+        Line::Addressed => ADDRESSED,
     }
 }
 

@@ -5,16 +5,16 @@ use ground::room;
 use link::Receiver;
 use link::receive;
 use tape_spec::LEAST_ROOM;
+use tape_spec::Line;
 use tape_spec::MOST_RECORDS;
-use tape_spec::Side;
 ghost use mathlib.Core.Path.{_≡_};
 ghost use mathlib.Core.Bool.{false};
 ghost use Prim.Native.Nat.{_+_, _-_, _≤_, _<_};
 ghost use lib.ListN.{length, take};
-ghost use Rattle.link_spec.specs.Receiving.{badState};
+ghost use Rattle.link_spec.specs.Receiving.{badReceiver};
 ghost use Rattle.tape_spec.specs.Limits.{mostRecords};
 ghost use Rattle.tape_spec.specs.Whole.{kindOf};
-ghost use Rattle.tape.specs.Running.{Least, Gathered, left, leaving, running, Heard as HeardOf};
+ghost use Rattle.tape.specs.Running.{Least, Gathered, left, runLeft, running, RunHeard as HeardOf};
 
 // The receiver behind the records that were heard, their count, and where their lines end.
 pub(crate) struct Ran {
@@ -26,7 +26,7 @@ pub(crate) struct Ran {
 // Hears the body at the front of `chunk` and those of the whole records of the same kind right behind it, as many as `piece` holds and a
 // tape may, and puts their lines while there is room for another.
 pub(crate) fn run(
-    side: Side,
+    line: Line,
     receiver: Receiver,
     records: u32,
     chunk: &[u8],
@@ -34,16 +34,16 @@ pub(crate) fn run(
     out: &mut [u8],
     at: usize,
 ) -> Ran
-    requires { ⌜ badState receiver ≡ false ⌝ }
+    requires { ⌜ badReceiver receiver ≡ false ⌝ }
     requires { ⌜ records < mostRecords ⌝ }
     requires { ⌜ 0 < length (now chunk) ⌝ }
     requires { ⌜ 0 < length (now piece) ⌝ }
     requires { ⌜ at ≤ length (now out) ⌝ }
-    ensures { λ r. ⌜ HeardOf side receiver records (now (chunk .entry)) (now (out .entry)) at (left r (now (out .exit))) ⌝ }
+    ensures { λ r. ⌜ HeardOf line receiver records (now (chunk .entry)) (now (out .entry)) at (left r (now (out .exit))) ⌝ }
 {
     let most = least((MOST_RECORDS - records) as usize, piece.len());
-    let count = gather(kind_of(side), most, chunk, piece);
-    hear(side, receiver, records, &piece[..count], out, at)
+    let count = gather(kind_of(line), most, chunk, piece);
+    hear(line, receiver, records, &piece[..count], out, at)
 }
 
 // Gathers the bodies into `piece`, at most so many, and answers how many there are.
@@ -73,18 +73,18 @@ fn least(a: usize, b: usize) -> usize
 
 // Hears bodies, and puts their lines while there is room for another.
 fn hear(
-    side: Side,
+    line: Line,
     receiver: Receiver,
     records: u32,
     bodies: &[u8],
     out: &mut [u8],
     at: usize,
 ) -> Ran
-    requires { ⌜ badState receiver ≡ false ⌝ }
+    requires { ⌜ badReceiver receiver ≡ false ⌝ }
     requires { ⌜ records + length (now bodies) ≤ mostRecords ⌝ }
     requires { ⌜ at ≤ length (now out) ⌝ }
     ensures { λ r. ⌜ left r (now (out .exit))
-        ≡ leaving (running (length (now (out .entry)) - at) side records receiver (now (bodies .entry))) (now (out .entry)) at ⌝ }
+        ≡ runLeft (running (length (now (out .entry)) - at) line records receiver (now (bodies .entry))) (now (out .entry)) at ⌝ }
 {
     let mut receiver = receiver;
     let mut count: usize = 0;
@@ -93,7 +93,7 @@ fn hear(
         let heard = receive(receiver, &bodies[count..]);
         receiver = heard.receiver;
         count += heard.taken;
-        let placed = put_heard(records + (count - 1) as u32, side, heard, out, end);
+        let placed = put_heard(records + (count - 1) as u32, line, heard, out, end);
         end = placed.end;
     }
     Ran {

@@ -7,7 +7,7 @@ use mathlib.Core.List.{List, [], _∷_}
 use Rattle.text.specs.Ascii.{ascii}
 use Rattle.tape_spec.specs.declared.tape.Ending.{Ending}
 use Rattle.tape_spec.specs.declared.tape.Ending.the-variants.{End as END, Full as FULL}
-use Rattle.tape_spec.specs.Rows.{lastLine}
+use Rattle.tape_spec.specs.Rows.{lastRow}
 use Rattle.tape_spec.specs.Whole.{parts, listing}
 
 pub data Example : Type 0 where
@@ -19,7 +19,7 @@ pub data Example : Type 0 where
 abbrev pub Holds : Example → Type 0
 Holds (lists tape printed) = listing tape ≡ ascii printed
 Holds (ends records tape ending) = parts records tape .ending ≡ ending
-Holds (last ending records printed) = lastLine ending records ≡ ascii printed
+Holds (last ending records printed) = lastRow ending records ≡ ascii printed
 
 abbrev pub examples : List Example
 examples =

@@ -9,21 +9,21 @@ use Rattle.text.specs.Decimal.{decimal}
 use Rattle.text.specs.Hex.{pairs}
 use Rattle.tape_spec.specs.declared.tape.Ending.{Ending}
 use Rattle.tape_spec.specs.declared.tape.Ending.the-variants.{End, Cut, Bad, Full}
-use Rattle.tape_spec.specs.declared.tape.Side.{Side}
-use Rattle.tape_spec.specs.declared.tape.Side.the-variants.{Point, Addressed}
+use Rattle.tape_spec.specs.declared.tape.Line.{Line}
+use Rattle.tape_spec.specs.declared.tape.Line.the-variants.{Point, Addressed}
 
 -- the line above all others
-unfoldable pub headerLine : List ℕ
-headerLine = ascii "record line event content\n"
+unfoldable pub headerRow : List ℕ
+headerRow = ascii "record line event content\n"
 
 -- P or A, between blanks
-unfoldable pub letter : Side → List ℕ
+unfoldable pub letter : Line → List ℕ
 letter Point = ascii " P "
 letter Addressed = ascii " A "
 
 -- number of records before, P or A, event name with a blank, content as upper-case hex pairs joined by dots, `-` for none
-unfoldable pub line : ℕ → Side → List ℕ → List ℕ → List ℕ
-line number side name content = decimal number ++ (letter side ++ (name ++ (pairs content ++ ascii "\n")))
+unfoldable pub row : ℕ → Line → List ℕ → List ℕ → List ℕ
+row number line name content = decimal number ++ (letter line ++ (name ++ (pairs content ++ ascii "\n")))
 
 -- the name of an event, and a blank
 unfoldable pub nameOf : Name → List ℕ
@@ -36,22 +36,22 @@ nameOf PAIR = ascii "PAIR "
 nameOf ADDR = ascii "ADDR "
 
 -- one line for an event, with its content for FRAME; none where nothing happened
-unfoldable pub eventLine : ℕ → Side → Name → List ℕ → List ℕ
-eventLine number side NONE content = []
-eventLine number side FRAME content = line number side (nameOf FRAME) content
-eventLine number side CHECK content = line number side (nameOf CHECK) []
-eventLine number side SHORT content = line number side (nameOf SHORT) []
-eventLine number side LONG content = line number side (nameOf LONG) []
-eventLine number side PAIR content = line number side (nameOf PAIR) []
-eventLine number side ADDR content = line number side (nameOf ADDR) []
+unfoldable pub eventRow : ℕ → Line → Name → List ℕ → List ℕ
+eventRow number line NONE content = []
+eventRow number line FRAME content = row number line (nameOf FRAME) content
+eventRow number line CHECK content = row number line (nameOf CHECK) []
+eventRow number line SHORT content = row number line (nameOf SHORT) []
+eventRow number line LONG content = row number line (nameOf LONG) []
+eventRow number line PAIR content = row number line (nameOf PAIR) []
+eventRow number line ADDR content = row number line (nameOf ADDR) []
 
 -- the content that an event carries
 abbrev pub carried : Said → List ℕ
 carried said = take (said .length) (said .content)
 
 -- the line of what a receiver said of a byte
-abbrev pub brought : ℕ → Side → Said → List ℕ
-brought n side said = eventLine n side (said .event) (carried said)
+abbrev pub heardRow : ℕ → Line → Said → List ℕ
+heardRow n line said = eventRow n line (said .event) (carried said)
 
 -- `end`, `cut`, `bad` or `full`, with the number of whole records
 unfoldable pub word : Ending → List ℕ
@@ -60,5 +60,5 @@ word Cut = ascii "cut "
 word Bad = ascii "bad "
 word Full = ascii "full "
 
-unfoldable pub lastLine : Ending → ℕ → List ℕ
-lastLine ending records = word ending ++ (decimal records ++ ascii "\n")
+unfoldable pub lastRow : Ending → ℕ → List ℕ
+lastRow ending records = word ending ++ (decimal records ++ ascii "\n")

@@ -9,35 +9,35 @@ use Rattle.ground.specs.declared.refusal.Refusal.{Refusal}
 use Rattle.ground.specs.declared.refusal.Refusal.the-variants.{NoRoom, BadState}
 use Rattle.ground.specs.Refusals.{number}
 use Rattle.ground.specs.Laying.{laid}
-use Rattle.link_spec.specs.Receiving.{badState, received}
+use Rattle.link_spec.specs.Receiving.{badReceiver, received}
 use Rattle.tape_spec.specs.declared.tape.Ending.{Ending}
 use Rattle.tape_spec.specs.declared.tape.Ending.the-variants.{End as END, Cut as CUT, Bad as BAD, Full as FULL}
 use Rattle.tape_spec.specs.Limits.{leastRoom, mostRecords}
-use Rattle.tape_spec.specs.Rows.{brought, lastLine}
+use Rattle.tape_spec.specs.Rows.{heardRow, lastRow}
 use Rattle.tape_spec.specs.declared.tape.Next.{Next}
 use Rattle.tape_spec.specs.declared.tape.Next.the-variants.{Kind, Body, Bad, Full}
 use Rattle.tape_spec.specs.declared.tape.Receivers.{Receivers}
 use Rattle.tape_spec.specs.declared.tape.Tape.{Tape}
 use Rattle.tape_spec.specs.declared.tape.Listed.{Listed}
-use Rattle.tape_spec.specs.Whole.{known, unknown, kind, freshReceivers, on, turned}
+use Rattle.tape_spec.specs.Whole.{known, unknown, kind, freshReceivers, receiverOn, withReceiver}
 use Rattle.tape_spec.specs.Whole as whole
 
-abbrev pub being : ℕ → Next → Receivers → Tape
-being records next receivers = record { records = records; next = next; receivers = receivers }
+abbrev pub tapeOf : ℕ → Next → Receivers → Tape
+tapeOf records next receivers = record { records = records; next = next; receivers = receivers }
 
 abbrev pub freshTape : Tape
-freshTape = being 0 Kind freshReceivers
+freshTape = tapeOf 0 Kind freshReceivers
 
 -- ---- one byte of a tape
 
 -- behind a kind byte its body is next, and nothing behind an unknown kind
 abbrev pub awaited : whole.Kind → Next
-awaited (known side) = Body side
+awaited (known line) = Body line
 awaited unknown = Bad
 
 -- nor behind a byte after the last permitted record
-unfoldable pub behindKind : ℕ → ℕ → Next
-behindKind records k = cond (eqb records mostRecords) Full (awaited (kind k))
+unfoldable pub afterKind : ℕ → ℕ → Next
+afterKind records k = cond (eqb records mostRecords) Full (awaited (kind k))
 
 -- the tape behind a byte, and the text that the byte brings
 pub record Step : Type 0 where
@@ -47,21 +47,21 @@ pub record Step : Type 0 where
 abbrev pub quiet : Tape → Step
 quiet t = record { tape = t; text = [] }
 
-unfoldable pub stepAt : Next → Tape → ℕ → Step
-stepAt Kind t b = quiet (being (t .records) (behindKind (t .records) b) (t .receivers))
-stepAt (Body side) t b =
-    let said = received (on side (t .receivers)) (b ∷ []) in
-    record { tape = being (t .records + 1) Kind (turned side (said .receiver) (t .receivers)); text = brought (t .records) side said }
-stepAt Bad t b = quiet t
-stepAt Full t b = quiet t
+unfoldable pub advance : Next → Tape → ℕ → Step
+advance Kind t b = quiet (tapeOf (t .records) (afterKind (t .records) b) (t .receivers))
+advance (Body line) t b =
+    let said = received (receiverOn line (t .receivers)) (b ∷ []) in
+    record { tape = tapeOf (t .records + 1) Kind (withReceiver line (said .receiver) (t .receivers)); text = heardRow (t .records) line said }
+advance Bad t b = quiet t
+advance Full t b = quiet t
 
-abbrev pub stepped : Tape → ℕ → Step
-stepped t b = stepAt (t .next) t b
+abbrev pub advanced : Tape → ℕ → Step
+advanced t b = advance (t .next) t b
 
 -- whether nothing further is read
 abbrev pub isOver : Next → Bool
 isOver Kind = false
-isOver (Body side) = false
+isOver (Body line) = false
 isOver Bad = true
 isOver Full = true
 
@@ -77,47 +77,47 @@ abbrev pub standing : Tape → Went
 standing t = record { tape = t; taken = 0; text = [] }
 
 -- what was taken and brought behind a step
-abbrev pub behind : Step → Went → Went
-behind s w = record { tape = w .tape; taken = 1 + w .taken; text = s .text ++ w .text }
+abbrev pub afterStep : Step → Went → Went
+afterStep s w = record { tape = w .tape; taken = 1 + w .taken; text = s .text ++ w .text }
 
 -- byte by byte, while there is room for the longest line and something further is read
 unfoldable pub going : ℕ → Tape → List ℕ → Went
 going room t [] = standing t
 going room t (b ∷ bs) =
-    let s = stepped t b in
+    let s = advanced t b in
     let more = going (room - length (s .text)) (s .tape) bs in
-    cond (isOver (t .next) || ltb room leastRoom) (standing t) (behind s more)
+    cond (isOver (t .next) || ltb room leastRoom) (standing t) (afterStep s more)
 
 -- a call's result in the paper's numbers, and the contents of the lent buffer as it returns
-pub record Told : Type 0 where
+pub record ListedOut : Type 0 where
   pub refusal : ℕ
   pub tape : Tape
   pub taken : ℕ
   pub written : ℕ
   pub out : List ℕ
 
-abbrev pub told : Listed → List ℕ → Told
-told r out = record { refusal = number (r .refusal); tape = r .tape; taken = r .taken; written = r .written; out = out }
+abbrev pub listedOut : Listed → List ℕ → ListedOut
+listedOut r out = record { refusal = number (r .refusal); tape = r .tape; taken = r .taken; written = r .written; out = out }
 
 -- a refused call returns the number and counts 0, with tape and buffer as before
-abbrev pub refusing : Refusal → Tape → List ℕ → Told
-refusing why t out = record { refusal = number why; tape = t; taken = 0; written = 0; out = out }
+abbrev pub notListed : Refusal → Tape → List ℕ → ListedOut
+notListed why t out = record { refusal = number why; tape = t; taken = 0; written = 0; out = out }
 
 -- a call that was not refused
-abbrev pub answering : Tape → ℕ → ℕ → List ℕ → Told
-answering t taken written out = record { refusal = 0; tape = t; taken = taken; written = written; out = out }
+abbrev pub listedTo : Tape → ℕ → ℕ → List ℕ → ListedOut
+listedTo t taken written out = record { refusal = 0; tape = t; taken = taken; written = written; out = out }
 
 -- the text stands at the buffer's front, and bytes behind it stay as they were
-abbrev pub writing : Went → List ℕ → Told
-writing w out = answering (w .tape) (w .taken) (length (w .text)) (laid out 0 (w .text))
+abbrev pub textWritten : Went → List ℕ → ListedOut
+textWritten w out = listedTo (w .tape) (w .taken) (length (w .text)) (laid out 0 (w .text))
 
 -- in the sense of row 4: a receiver that the link refuses, or a body behind the last permitted record, is BadState
 abbrev pub badReceivers : Receivers → Bool
-badReceivers r = badState (r .point) || badState (r .addressed)
+badReceivers r = badReceiver (r .point) || badReceiver (r .addressed)
 
 abbrev pub awaitsBody : Next → Bool
 awaitsBody Kind = false
-awaitsBody (Body side) = true
+awaitsBody (Body line) = true
 awaitsBody Bad = false
 awaitsBody Full = false
 
@@ -125,19 +125,19 @@ abbrev pub badTape : Tape → Bool
 badTape t = badReceivers (t .receivers) || (awaitsBody (t .next) && eqb (t .records) mostRecords)
 
 -- in the sense of row 1: out under the least room is NoRoom. Order: 4, 1, as the reader's
-unfoldable pub listed : Tape → List ℕ → List ℕ → Told
+unfoldable pub listed : Tape → List ℕ → List ℕ → ListedOut
 listed t chunk out =
-    cond (badTape t) (refusing BadState t out)
-    (cond (ltb (length out) leastRoom) (refusing NoRoom t out) (writing (going (length out) t chunk) out))
+    cond (badTape t) (notListed BadState t out)
+    (cond (ltb (length out) leastRoom) (notListed NoRoom t out) (textWritten (going (length out) t chunk) out))
 
 -- ---- the last line
 
 -- how a tape ends that has no byte more
 abbrev pub ending : Next → Ending
 ending Kind = END
-ending (Body side) = CUT
+ending (Body line) = CUT
 ending Bad = BAD
 ending Full = FULL
 
-abbrev pub lastOf : Tape → List ℕ
-lastOf t = lastLine (ending (t .next)) (t .records)
+abbrev pub lastRowOf : Tape → List ℕ
+lastRowOf t = lastRow (ending (t .next)) (t .records)

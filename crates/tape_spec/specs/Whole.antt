@@ -4,16 +4,16 @@ use mathlib.Core.Bool.{cond}
 use mathlib.Core.List.{List, [], _∷_, _++_}
 use lib.Dec.{eqb}
 use lib.ListN.{length}
-use Rattle.link_spec.specs.declared.station.Line.{Line}
-use Rattle.link_spec.specs.declared.station.Line.the-variants as line
+use Rattle.link_spec.specs.declared.station.Station.{Station}
+use Rattle.link_spec.specs.declared.station.Station.the-variants as station
 use Rattle.link_spec.specs.declared.receiver.Receiver.{Receiver}
 use Rattle.link_spec.specs.Events.{Name, happened}
-use Rattle.link_spec.specs.Receiving.{fresh, Said, received}
-use Rattle.tape_spec.specs.declared.tape.Side.{Side}
-use Rattle.tape_spec.specs.declared.tape.Side.the-variants.{Point, Addressed}
+use Rattle.link_spec.specs.Receiving.{freshReceiver, Said, received}
+use Rattle.tape_spec.specs.declared.tape.Line.{Line}
+use Rattle.tape_spec.specs.declared.tape.Line.the-variants.{Point, Addressed}
 use Rattle.tape_spec.specs.declared.tape.Ending.{Ending}
 use Rattle.tape_spec.specs.declared.tape.Ending.the-variants.{End as END, Cut as CUT, Bad as BAD, Full as FULL}
-use Rattle.tape_spec.specs.Rows.{headerLine, eventLine, carried, lastLine}
+use Rattle.tape_spec.specs.Rows.{headerRow, eventRow, carried, lastRow}
 use Rattle.tape_spec.specs.declared.tape.Receivers.{Receivers}
 use Rattle.tape_spec.specs.Limits.{mostRecords}
 
@@ -21,20 +21,20 @@ use Rattle.tape_spec.specs.Limits.{mostRecords}
 
 -- a record of the tape: a byte, and the line on which it was heard
 pub data Record : Type 0 where
-  heard : Side → ℕ → Record
+  heardOn : Line → ℕ → Record
 
 -- kind 01: one byte heard on the point line; kind 02: one byte heard on an addressed line by its master
-abbrev pub kindOf : Side → ℕ
+abbrev pub kindOf : Line → ℕ
 kindOf Point = 0x01
 kindOf Addressed = 0x02
 
 -- one byte of kind, then the body
 unfoldable pub taped : List Record → List ℕ
 taped [] = []
-taped (heard side b ∷ rs) = kindOf side ∷ b ∷ taped rs
+taped (heardOn line b ∷ rs) = kindOf line ∷ b ∷ taped rs
 
 pub data Kind : Type 0 where
-  known : Side → Kind
+  known : Line → Kind
   unknown : Kind
 
 unfoldable pub kind : ℕ → Kind
@@ -50,12 +50,12 @@ noMore ending = record { records = []; ending = ending }
 
 -- a kind at the tape's end: its body is missing
 abbrev pub bodyless : Kind → Ending
-bodyless (known side) = CUT
+bodyless (known line) = CUT
 bodyless unknown = BAD
 
 -- a kind and a byte behind it: a record before others; behind an unknown kind nothing is read further
 abbrev pub before : Kind → ℕ → Parts → Parts
-before (known side) b parts = record { records = heard side b ∷ parts .records; ending = parts .ending }
+before (known line) b parts = record { records = heardOn line b ∷ parts .records; ending = parts .ending }
 before unknown b parts = noMore BAD
 
 -- from behind so many whole records on; a byte after 2^32 - 1 records is `full`, and nothing is read further
@@ -67,54 +67,54 @@ parts n (k ∷ b ∷ bs) = cond (eqb n mostRecords) (noMore FULL) (before (kind 
 -- ---- lines
 
 -- the point line, or an addressed line as its master hears it
-abbrev pub lineOn : Side → Line
-lineOn Point = line.Point
-lineOn Addressed = line.Addressed 0x00
+abbrev pub stationOn : Line → Station
+stationOn Point = station.Point
+stationOn Addressed = station.Addressed 0x00
 
 abbrev pub freshReceivers : Receivers
-freshReceivers = record { point = fresh (lineOn Point); addressed = fresh (lineOn Addressed) }
+freshReceivers = record { point = freshReceiver (stationOn Point); addressed = freshReceiver (stationOn Addressed) }
 
-abbrev pub on : Side → Receivers → Receiver
-on Point r = r .point
-on Addressed r = r .addressed
+abbrev pub receiverOn : Line → Receivers → Receiver
+receiverOn Point r = r .point
+receiverOn Addressed r = r .addressed
 
 -- the receivers, with another on this side
-abbrev pub turned : Side → Receiver → Receivers → Receivers
-turned Point receiver r = record { point = receiver; addressed = r .addressed }
-turned Addressed receiver r = record { point = r .point; addressed = receiver }
+abbrev pub withReceiver : Line → Receiver → Receivers → Receivers
+withReceiver Point receiver r = record { point = receiver; addressed = r .addressed }
+withReceiver Addressed receiver r = record { point = r .point; addressed = receiver }
 
 -- what a line is made of: the number of records before the one that brought it, its line, the event, and the content without check
 pub record Entry : Type 0 where
   pub number : ℕ
-  pub side : Side
+  pub line : Line
   pub event : Name
   pub content : List ℕ
 
-abbrev pub entry : ℕ → Side → Name → List ℕ → Entry
-entry number side event content = record { number = number; side = side; event = event; content = content }
+abbrev pub entry : ℕ → Line → Name → List ℕ → Entry
+entry number line event content = record { number = number; line = line; event = event; content = content }
 
 -- what a record brings, of which the receiver said this: one entry, unless nothing happened
-unfoldable pub entryOf : ℕ → Side → Said → List Entry
-entryOf number side said =
-    cond (happened (said .event)) (entry number side (said .event) (carried said) ∷ []) []
+unfoldable pub entryOf : ℕ → Line → Said → List Entry
+entryOf number line said =
+    cond (happened (said .event)) (entry number line (said .event) (carried said) ∷ []) []
 
 -- the entries of records from behind so many others on: each hands its byte to the receiver of its line
 unfoldable pub entries : ℕ → Receivers → List Record → List Entry
 entries n r [] = []
-entries n r (heard side b ∷ rs) =
-    let said = received (on side r) (b ∷ []) in
-    entryOf n side said ++ entries (n + 1) (turned side (said .receiver) r) rs
+entries n r (heardOn line b ∷ rs) =
+    let said = received (receiverOn line r) (b ∷ []) in
+    entryOf n line said ++ entries (n + 1) (withReceiver line (said .receiver) r) rs
 
 -- their text, one line per entry
-unfoldable pub entryLines : List Entry → List ℕ
-entryLines [] = []
-entryLines (e ∷ es) = eventLine (e .number) (e .side) (e .event) (e .content) ++ entryLines es
+unfoldable pub entryRows : List Entry → List ℕ
+entryRows [] = []
+entryRows (e ∷ es) = eventRow (e .number) (e .line) (e .event) (e .content) ++ entryRows es
 
-abbrev pub eventLines : ℕ → Receivers → List Record → List ℕ
-eventLines n r rs = entryLines (entries n r rs)
+abbrev pub eventRows : ℕ → Receivers → List Record → List ℕ
+eventRows n r rs = entryRows (entries n r rs)
 
 -- header, one line per event, last line
 unfoldable pub listing : List ℕ → List ℕ
 listing tape =
     let p = parts 0 tape in
-    headerLine ++ (eventLines 0 freshReceivers (p .records) ++ lastLine (p .ending) (length (p .records)))
+    headerRow ++ (eventRows 0 freshReceivers (p .records) ++ lastRow (p .ending) (length (p .records)))

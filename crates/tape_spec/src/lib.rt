@@ -3,10 +3,10 @@
 mod tape;
 
 pub use tape::Ending;
+pub use tape::Line;
 pub use tape::Listed;
 pub use tape::Next;
 pub use tape::Receivers;
-pub use tape::Side;
 pub use tape::Tape;
 use wire_spec::MOST_CONTENT;
 

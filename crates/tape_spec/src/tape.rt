@@ -3,7 +3,7 @@ use ground::Refusal;
 use link_spec::Receiver;
 
 // The line on which a byte was heard: the point line, or an addressed line as its master hears it.
-pub enum Side {
+pub enum Line {
     Point,
     Addressed,
 }
@@ -12,7 +12,7 @@ pub enum Side {
 // permitted record.
 pub enum Next {
     Kind,
-    Body(Side),
+    Body(Line),
     Bad,
     Full,
 }

@@ -9,14 +9,14 @@ use wire_spec::STOP;
 ghost use mathlib.Core.Path.{_≡_};
 ghost use Prim.Native.Nat.{_≤_};
 ghost use lib.ListN.{length};
-ghost use Rattle.ground.specs.Refusals.{answered};
+ghost use Rattle.ground.specs.Refusals.{tally};
 ghost use Rattle.wire_spec.specs.Limits.{mostContent};
 ghost use Rattle.wire_spec.specs.Image.{imageLength};
 ghost use Rattle.wire_spec.specs.Writing.{after, lengthAsked, imageWritten};
 
 // The length of a content's image. Refuses a content over 64 bytes (TooLong).
 pub fn image_length(content: &[u8]) -> Counted
-    ensures { λ r. ⌜ answered r ≡ lengthAsked (now (content .entry)) ⌝ }
+    ensures { λ r. ⌜ tally r ≡ lengthAsked (now (content .entry)) ⌝ }
 {
     if content.len() > MOST_CONTENT {
         return Counted::refused(Refusal::TooLong);

@@ -8,7 +8,7 @@ use lib.ListN.{length}
 use Rattle.ground.specs.declared.refusal.Refusal.{Refusal}
 use Rattle.ground.specs.declared.refusal.Refusal.the-variants.{NoRoom, TooLong}
 use Rattle.ground.specs.declared.refusal.Counted.{Counted}
-use Rattle.ground.specs.Refusals.{Answer, answered, refused, counted}
+use Rattle.ground.specs.Refusals.{Tally, tally as tallyOf, refused, counted}
 use Rattle.ground.specs.Laying.{onto}
 use Rattle.checks.specs.declared.kind.Check.{Check}
 use Rattle.checks.specs.Check.{withCheck}
@@ -16,24 +16,24 @@ use Rattle.wire_spec.specs.Limits.{mostContent}
 use Rattle.wire_spec.specs.Image.{image, imageLength}
 
 -- 01, Refusal numbers, row 2: a length asked for content over 64 is TooLong
-unfoldable pub lengthAsked : List ℕ → Answer
+unfoldable pub lengthAsked : List ℕ → Tally
 lengthAsked content = cond (ltb mostContent (length content)) (refused TooLong) (counted (imageLength content))
 
 -- a call's answer, and the contents of the lent buffer as it returns
 pub record After : Type 0 where
-  pub answer : Answer
+  pub tally : Tally
   pub out : List ℕ
 
-abbrev pub leaving : Answer → List ℕ → After
-leaving answer out = record { answer = answer; out = out }
+abbrev pub leaving : Tally → List ℕ → After
+leaving says out = record { tally = says; out = out }
 
 -- what a call's result says, and what it left
 abbrev pub after : Counted → List ℕ → After
-after r out = leaving (answered r) out
+after r out = leaving (tallyOf r) out
 
 -- 01, Refusal numbers, below the table: a refused call returns the number and count 0, with buffers as before
-abbrev pub refusing : Refusal → List ℕ → After
-refusing why out = leaving (refused why) out
+abbrev pub notWritten : Refusal → List ℕ → After
+notWritten why out = leaving (refused why) out
 
 -- 01, Layout of a frame, the last paragraph: the count is the image's length, and bytes behind the image stay as they were
 abbrev pub putting : List ℕ → List ℕ → After
@@ -41,11 +41,11 @@ putting content out = leaving (counted (length (image content))) (onto (image co
 
 -- 01, Refusal numbers, row 1: out shorter than the image is NoRoom
 unfoldable pub imageWritten : List ℕ → List ℕ → After
-imageWritten content out = cond (ltb (length out) (length (image content))) (refusing NoRoom out) (putting content out)
+imageWritten content out = cond (ltb (length out) (length (image content))) (notWritten NoRoom out) (putting content out)
 
 -- 01, Refusal numbers, row 2, in its sense: a content over 64 has no image to write, before the room for it is asked
 unfoldable pub imageAsked : List ℕ → List ℕ → After
-imageAsked content out = cond (ltb mostContent (length content)) (refusing TooLong out) (imageWritten content out)
+imageAsked content out = cond (ltb mostContent (length content)) (notWritten TooLong out) (imageWritten content out)
 
 -- a frame put together of its head, its data and the check after them: the image of the content that these make
 unfoldable pub frameWritten : Check → List ℕ → List ℕ → List ℕ → After

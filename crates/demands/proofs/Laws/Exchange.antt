@@ -7,7 +7,7 @@ use Prim.Native.Nat.{ℕ, _+_, _≤_}
 use native.Mathlib.Omega.{arith}
 use lib.ListN.{length}
 use Rattle.ground.specs.Refusals.{number}
-use Rattle.link_spec.specs.declared.station.Line.the-variants.{Point}
+use Rattle.link_spec.specs.declared.station.Station.the-variants.{Point}
 use Rattle.link_spec.specs.declared.receiver.Receiver.{Receiver}
 use Rattle.link_spec.specs.Limits.{mostData}
 use Rattle.link_spec.specs.Events.{FRAME}
@@ -18,7 +18,7 @@ use Rattle.request_spec.specs.declared.command.Acceptance.the-variants.{Accepte
 use Rattle.request_spec.specs.Limits.{mostAntenna, headerLength}
 use Rattle.request_spec.specs.Acceptance.{acceptance}
 use Rattle.request_spec.specs.Replies.{Reply, NACK, sign, commandIn, dataIn, frontOf}
-use Rattle.request_spec.specs.Reading.{accepting, replyRead}
+use Rattle.request_spec.specs.Reading.{hasRead, replyRead}
 use Rattle.request_spec.proofs.Laws.Acceptance.{accepts}
 use Rattle.request_spec.proofs.Laws.Reading.{reads-nack}
 use Rattle.reader_spec.specs.declared.reader.Reader.{Reader}
@@ -42,7 +42,7 @@ module _ (identifier code : ℕ) (reply : Reply) (fits : length (dataIn reply) �
 delivered : (identifier code : ℕ) («data» bytes before rest : List ℕ) (reply : Reply) {m : Receiver} {all : List Told}
     → length (dataIn reply) ≤ mostData
     → bytes ≡ replyImage identifier code reply
-    → replyRead identifier code «data» (frontOf identifier code reply) ≡ accepting reply
+    → replyRead identifier code «data» (frontOf identifier code reply) ≡ hasRead reply
     → IsFresh Point m
     → Hearing (before ++ (bytes ++ rest)) m 0 all
     → Delivered identifier code «data» before all bytes reply

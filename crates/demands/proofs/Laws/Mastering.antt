@@ -19,7 +19,7 @@ use Rattle.request_spec.specs.Parameters.{lengthOf}
 use Rattle.request_spec.specs.Acceptance as table
 use Rattle.request_spec.specs.Acceptance.{acceptance, Accepts}
 use Rattle.request_spec.specs.Replies.{Reply, sign, noCard, frontOf}
-use Rattle.request_spec.specs.Reading.{accepting, replyRead}
+use Rattle.request_spec.specs.Reading.{hasRead, replyRead}
 use Rattle.request_spec.proofs.Laws.Acceptance.{accepted}
 use Rattle.request_spec.proofs.Laws.Reading.{reads-nack, reads-ack, reads-due}
 use Rattle.reader_spec.specs.Replies.{replyTo}
@@ -29,7 +29,7 @@ use Rattle.reader_spec.proofs.Laws.Replies.{replies-header, replies-ack, replie
 module _ (value : Parameter → List ℕ) (sized : (p : Parameter) → length (value p) ≡ lengthOf p) (identifier : ℕ) (header antenna : List ℕ)
     (whole : length header ≡ headerLength) where
   abbrev Reads : ℕ → List ℕ → Reply → Type 0
-  Reads code «data» reply = replyRead identifier code «data» (frontOf identifier code reply) ≡ accepting reply
+  Reads code «data» reply = replyRead identifier code «data» (frontOf identifier code reply) ≡ hasRead reply
 
   reads-card : (code : ℕ) (card : Card) → acceptance code [] ≡ Accepted (Command.Card card) → eqb code sign ≡ false → eqb code 0x01 ≡ false
       → Reads code [] (replyTo value (Command.Card card) header antenna)

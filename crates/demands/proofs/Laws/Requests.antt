@@ -9,7 +9,7 @@ use Rattle.ground.specs.declared.refusal.Counted.{Counted}
 use Rattle.ground.specs.Refusals as refusals
 use Rattle.wire_spec.specs.Writing.{After, after}
 use Rattle.link_spec.specs.declared.event.Event.the-variants.{Frame}
-use Rattle.link_spec.specs.declared.station.Line.the-variants.{Point}
+use Rattle.link_spec.specs.declared.station.Station.the-variants.{Point}
 use Rattle.link_spec.specs.declared.receiver.Receiver.{Receiver}
 use Rattle.link_spec.specs.Limits.{mostData}
 use Rattle.link_spec.specs.Events.{FRAME}
@@ -60,10 +60,10 @@ module _ {alone : Bool} {s : Reader} {held store′ out′ : List ℕ} {h : Hist
 
   -- every typed request that the writer accepted is executed by a reader for which it repeats nothing, so by a fresh one
   pub request-executed : (w : Counted) (room : List ℕ) {wrote : List ℕ} → after w wrote ≡ requestWritten identifier code «data» room
-      → refusals.answered w .refusal ≡ 0
+      → refusals.tally w .refusal ≡ 0
       → Executes alone h identifier code «data» header antenna r store′ out′
   request-executed w room wrote done =
-      judge-executes (written-asks identifier code «data» room (sym (ap (λ (a : After). a .answer .refusal) wrote) ∙ done) .1)
+      judge-executes (written-asks identifier code «data» room (sym (ap (λ (a : After). a .tally .refusal) wrote) ∙ done) .1)
 
   judge-refuses : (k : Acceptance) → acceptance code «data» ≡ k → isAccepted k ≡ false → length «data» ≤ mostData
       → Refuses s identifier code «data» store r store′ out′
@@ -82,12 +82,12 @@ module _ {alone : Bool} {s : Reader} {held store′ out′ : List ℕ} {h : Hist
 
   -- every content that it refuses with 5 is answered NACK 2 or 3
   pub refused-nacked : (w : Counted) (room : List ℕ) {wrote : List ℕ} → after w wrote ≡ requestWritten identifier code «data» room
-      → refusals.answered w .refusal ≡ 5
+      → refusals.tally w .refusal ≡ 5
       → length «data» ≤ mostData
       → Refuses s identifier code «data» store r store′ out′
   refused-nacked w room wrote bad short =
       judge-refuses (acceptance code «data») refl
-      (refused-asks identifier code «data» room (sym (ap (λ (a : After). a .answer .refusal) wrote) ∙ bad)) short
+      (refused-asks identifier code «data» room (sym (ap (λ (a : After). a .tally .refusal) wrote) ∙ bad)) short
 
 -- a call of a fresh reader
 module _ {store′ out′ : List ℕ} (r : Answer) (identifier code : ℕ) («data» header antenna store out : List ℕ)
@@ -96,7 +96,7 @@ module _ {store′ out′ : List ℕ} (r : Answer) (identifier code : ℕ) («da
   -- what was written and not refused is heard by the link, put anywhere into any stream, and what is heard is executed
   pub request-asked : (w : Counted) (room room′ before rest : List ℕ) {m : Receiver} {all : List Told}
       → after w room′ ≡ requestWritten identifier code «data» room
-      → refusals.answered w .refusal ≡ 0
+      → refusals.tally w .refusal ≡ 0
       → IsFresh Point m
       → Hearing (before ++ (take (w .count) room′ ++ rest)) m 0 all
       → List·Memᴰ (toldAt (length before + w .count) FRAME (identifier ∷ code ∷ «data»)) all
@@ -108,7 +108,7 @@ module _ {store′ out′ : List ℕ} (r : Answer) (identifier code : ℕ) («da
 
   -- and what the writer refused with 5, if a frame can carry it, is answered NACK 2 or 3
   pub fresh-refuses : (w : Counted) (room : List ℕ) {wrote : List ℕ} → after w wrote ≡ requestWritten identifier code «data» room
-      → refusals.answered w .refusal ≡ 5
+      → refusals.tally w .refusal ≡ 5
       → length «data» ≤ mostData
       → Refuses fresh identifier code «data» store r store′ out′
   fresh-refuses = refused-nacked {alone = true} (fresh-session store) r identifier code «data» header antenna store out refl refl whole lent says

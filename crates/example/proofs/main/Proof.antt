@@ -13,22 +13,22 @@ use Rattle.checks.specs.Check.{checkOf, withCheck, front, came, alike, isRight}
 use Rattle.wire_spec.specs.Stuffing.{stuffed, stuffing}
 use Rattle.wire_spec.specs.Image.{image}
 use Rattle.wire_spec.specs.Writing.{After, imageWritten}
-use Rattle.link_spec.specs.declared.station.Line.the-variants.{Point}
+use Rattle.link_spec.specs.declared.station.Station.the-variants.{Point}
 use Rattle.link_spec.specs.Frame.{pointContent}
-use Rattle.link_spec.specs.Writers.{written, pointWritten}
+use Rattle.link_spec.specs.Writers.{writtenUnless, pointWritten}
 use Rattle.link_spec.specs.Events.{verdict}
 use Rattle.link_spec.specs.Turning.{kept, plain, contentByte, inside, within, turn}
-use Rattle.link_spec.specs.Receiving.{fresh, Said, saying, moved, outcome, heard, received}
+use Rattle.link_spec.specs.Receiving.{freshReceiver, Said, saying, moved, outcome, heard, received}
 use Rattle.example.proofs.main.Statement.{statement}
 use Rattle.example.proofs.main.Tie as tie
 
 counts : (c : tie.After-write-point) → c .write-point .result .count ≡ 6
-unfolding stuffed stuffing image shiftStep shiftSteps byteStep run residue fcs fcsBytes checkOf withCheck pointContent imageWritten written pointWritten
-counts c = ap (λ (l : After). l .answer .count) (c .write-point .ensures)
+unfolding stuffed stuffing image shiftStep shiftSteps byteStep run residue fcs fcsBytes checkOf withCheck pointContent imageWritten writtenUnless pointWritten
+counts c = ap (λ (l : After). l .tally .count) (c .write-point .ensures)
 
 -- what the receiver says of the six bytes that were written
 said : Said
-said = received (fresh Point) (take 6 (pointWritten 0x00 0x00 [] (replicate 8 0) .out))
+said = received (freshReceiver Point) (take 6 (pointWritten 0x00 0x00 [] (replicate 8 0) .out))
 
 hears : (c : tie.After-receive) → saying (c .receive .result) ≡ said
 unfolding said
@@ -38,7 +38,7 @@ hears c =
     ∙ ap₂ received (c .before .before .fresh-point .ensures) (ap₂ take (counts w) (ap (λ (a : After). a .out) (w .write-point .ensures)))
 
 carries : (c : tie.After-receive) → (c .receive .result .length ≡ 2) × (length (c .receive .result .content) ≡ 64)
-unfolding said stuffed stuffing image shiftStep shiftSteps byteStep run residue fcs fcsBytes checkOf withCheck pointContent imageWritten written
+unfolding said stuffed stuffing image shiftStep shiftSteps byteStep run residue fcs fcsBytes checkOf withCheck pointContent imageWritten writtenUnless
     pointWritten front came alike isRight kept plain contentByte inside within turn verdict moved outcome heard received
 carries c = (ap (λ (s : Said). s .length) (hears c), ap (λ (s : Said). length (s .content)) (hears c))
 

@@ -5,7 +5,7 @@ use mathlib.Core.List.{List}
 use Prim.Native.Nat.{ℕ}
 use Rattle.ground.specs.declared.refusal.Counted.{Counted}
 use Rattle.ground.specs.declared.laying.Placed.{Placed}
-use Rattle.ground.specs.Refusals.{Answer, answered}
+use Rattle.ground.specs.Refusals.{Tally, tally}
 use Rattle.ground.specs.Laying.{Ended, ended}
 use Rattle.ground.proofs.Laws.Refusals.{number-injective}
 
@@ -14,10 +14,10 @@ pub same : {A : Type 0} {r s t : A} → r ≡ t → s ≡ t → r ≡ s
 same p q = p ∙ sym q
 
 -- of a call that answers a count or a refusal
-pub same-answer : {r s : Counted} {t : Answer} → answered r ≡ t → answered s ≡ t → r ≡ s
+pub same-answer : {r s : Counted} {t : Tally} → tally r ≡ t → tally s ≡ t → r ≡ s
 same-answer {r} {s} p q =
-    let e : answered r ≡ answered s = same p q in
-    let why = number-injective (r .refusal) (s .refusal) (ap (λ (a : Answer). a .refusal) e) in
+    let e : tally r ≡ tally s = same p q in
+    let why = number-injective (r .refusal) (s .refusal) (ap (λ (a : Tally). a .refusal) e) in
     λ i. record { refusal = why i; count = e i .count }
 
 -- of a call that puts bytes at a place of a lent buffer

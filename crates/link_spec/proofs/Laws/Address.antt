@@ -52,15 +52,15 @@ own-lt a =
     (λ t. omega (arith, leb-true a 0x7E (and-eq-true-iff (leb 0x01 a) (leb a 0x7E) .0 t .1)))
     (λ t. omega (arith, leb-true a 0xFC (and-eq-true-iff (leb 0x80 a) (leb a 0xFC) .0 t .1)))
 
-station-lt : (station : ℕ) → isStation station ≡ true → station < 0xFD
-station-lt station = or-elim (isMaster station) (isOwn station) (λ t. omega (arith, eqb-true station 0x00 t)) (own-lt station)
+station-lt : (own : ℕ) → isStation own ≡ true → own < 0xFD
+station-lt own = or-elim (isMaster own) (isOwn own) (λ t. omega (arith, eqb-true own 0x00 t)) (own-lt own)
 
-pub takes-lt : (station a : ℕ) → isStation station ≡ true → takes station a ≡ true → a < 0xFD
+pub takes-lt : (own a : ℕ) → isStation own ≡ true → takes own a ≡ true → a < 0xFD
 unfolding takes
-takes-lt station a good =
-    cond-elim (λ (t : Bool). t ≡ true → a < 0xFD) (isMaster station) (λ m e. omega (arith, eqb-true a 0x00 e))
-    (λ m. or-elim (eqb a station) (isBroadcast a) (λ e. omega (arith, eqb-true a station e, station-lt station good))
+takes-lt own a good =
+    cond-elim (λ (t : Bool). t ≡ true → a < 0xFD) (isMaster own) (λ m e. omega (arith, eqb-true a 0x00 e))
+    (λ m. or-elim (eqb a own) (isBroadcast a) (λ e. omega (arith, eqb-true a own e, station-lt own good))
     (λ e. omega (arith, eqb-true a 0x7F e)))
 
-pub takes-plain : (station a : ℕ) → isStation station ≡ true → takes station a ≡ true → special a ≡ false
-takes-plain station a good taken = plain-is a (takes-lt station a good taken)
+pub takes-plain : (own a : ℕ) → isStation own ≡ true → takes own a ≡ true → special a ≡ false
+takes-plain own a good taken = plain-is a (takes-lt own a good taken)

@@ -8,7 +8,7 @@ use Prim.Native.Nat.{ℕ, _+_}
 use lib.ListN.{take, drop}
 use Rattle.link_spec.specs.declared.receiver.Receiver.{Receiver}
 use Rattle.link_spec.specs.Events.{Name, NONE, happened, silent}
-use Rattle.link_spec.specs.Receiving.{Said, turnAt, moved, hasEvent, outcomeAt, answering, heard, badState, received}
+use Rattle.link_spec.specs.Receiving.{Said, turnAt, moved, hasEvent, outcomeAt, saidOf, heard, badReceiver, received}
 use Rattle.link_spec.specs.Hearing.{Told, toldAt, note, tells, Hearing, call}
 use Rattle.link_spec.proofs.Laws.Receiving.{hears, received-answers, event-happens, takes-one, stays-good}
 
@@ -34,7 +34,7 @@ unfolding heard
 heard-later [] taken s = refl
 heard-later (b ∷ bs) taken s =
     let t = turnAt s b in
-    later-cond (hasEvent t) (answering (moved s t) (outcomeAt s t) (taken + 1)) (heard (taken + 1) (moved s t) bs)
+    later-cond (hasEvent t) (saidOf (moved s t) (outcomeAt s t) (taken + 1)) (heard (taken + 1) (moved s t) bs)
     (heard-later bs (taken + 1) (moved s t))
 
 -- an answer with an event, or one without
@@ -48,12 +48,12 @@ happened-later : (e : Bool) (x y : Said) (on : Receiver → Said) → (e ≡ tru
 happened-later true x y on some h = absurd (true≢false (sym (some refl) ∙ h))
 happened-later false x y on some h = refl
 
-module _ (s : Receiver) (good : badState s ≡ false) (b : ℕ) where
+module _ (s : Receiver) (good : badReceiver s ≡ false) (b : ℕ) where
   event : Said
-  event = answering (moved s (turnAt s b)) (outcomeAt s (turnAt s b)) 1
+  event = saidOf (moved s (turnAt s b)) (outcomeAt s (turnAt s b)) 1
 
   none : Said
-  none = answering (moved s (turnAt s b)) silent 1
+  none = saidOf (moved s (turnAt s b)) silent 1
 
   one : received s (b ∷ []) ≡ cond (hasEvent (turnAt s b)) event none
   unfolding heard event none
@@ -96,7 +96,7 @@ unfolding note
 note-none place event content none = rw none
 
 pub hearing-byte : (stream : List ℕ) (b : ℕ) (bs : List ℕ) (before : ℕ) (s : Receiver) (more : List Told)
-    → badState s ≡ false → drop before stream ≡ b ∷ bs
+    → badReceiver s ≡ false → drop before stream ≡ b ∷ bs
     → let said = received s (b ∷ []) in
     Hearing stream (said .receiver) (before + 1) more
     → Hearing stream s before (note (before + 1) (said .event) (take (said .length) (said .content)) ++ more)

@@ -8,53 +8,53 @@ use native.Mathlib.Nat.{add-zero}
 use native.Mathlib.Omega.{arith}
 use lib.ListN.{drop, drop-of-length-le}
 use Rattle.ground.proofs.Laws.Lists.{drop-on}
-use Rattle.link_spec.specs.declared.station.Line.{Line}
+use Rattle.link_spec.specs.declared.station.Station.{Station}
 use Rattle.link_spec.specs.declared.receiver.Receiver.{Receiver}
 use Rattle.link_spec.specs.declared.receiver.Heard.{Heard}
-use Rattle.link_spec.specs.Line.{hasStation}
-use Rattle.link_spec.specs.Receiving.{Said, saying, turnAt, moved, hasEvent, outcomeAt, answering, heard, received}
+use Rattle.link_spec.specs.Station.{hasAddress}
+use Rattle.link_spec.specs.Receiving.{Said, saying, turnAt, moved, hasEvent, outcomeAt, saidOf, heard, received}
 use Rattle.link_spec.specs.Hearing.{Told, note, tells, Hearing, over, call}
 use Rattle.link_spec.proofs.Laws.Fit.{sound-at, Fit, fit-at, fit-good}
 use Rattle.link_spec.proofs.Laws.Receiving.{heard-elim, hears}
 use Rattle.link_spec.proofs.Laws.View.{View, seen, turns, next, noted, turns-seen, seen-moved, noted-seen, quiet}
 
 -- what the bytes tell one by one, from behind a place on
-unfoldable pub tell : Line → View → ℕ → List ℕ → List Told
-tell line v at [] = []
-tell line v at (b ∷ bs) = noted line v (at + 1) (turns line v b) ++ tell line (next v (turns line v b)) (at + 1) bs
+unfoldable pub tell : Station → View → ℕ → List ℕ → List Told
+tell station v at [] = []
+tell station v at (b ∷ bs) = noted station v (at + 1) (turns station v b) ++ tell station (next v (turns station v b)) (at + 1) bs
 
 -- the same of a record
-tell-record : {line : Line} {s : Receiver} → Fit line s → (at b : ℕ) (l : List ℕ)
-    → tell line (seen s) at (b ∷ l) ≡ noted line (seen s) (at + 1) (turnAt s b) ++ tell line (seen (moved s (turnAt s b))) (at + 1) l
+tell-record : {station : Station} {s : Receiver} → Fit station s → (at b : ℕ) (l : List ℕ)
+    → tell station (seen s) at (b ∷ l) ≡ noted station (seen s) (at + 1) (turnAt s b) ++ tell station (seen (moved s (turnAt s b))) (at + 1) l
 unfolding tell
-tell-record {line} {s} fit at b l =
+tell-record {station} {s} fit at b l =
     rw (seen-moved fit (turnAt s b) (sound-at s b), turns-seen fit b)
 
-module _ (line : Line) (stream : List ℕ) (before : ℕ) where
+module _ (station : Station) (stream : List ℕ) (before : ℕ) where
   -- one call, which has taken some bytes, tells the next bytes up to its event, and leaves the others
   abbrev Tells : Said → ℕ → Receiver → List ℕ → Type 0
   Tells said taken s l =
-      Fit line (said .receiver)
-      × (tells before said ++ tell line (seen (said .receiver)) (before + said .taken) (drop (before + said .taken) stream)
-      ≡ tell line (seen s) (before + taken) l)
+      Fit station (said .receiver)
+      × (tells before said ++ tell station (seen (said .receiver)) (before + said .taken) (drop (before + said .taken) stream)
+      ≡ tell station (seen s) (before + taken) l)
 
   -- the place of the next byte, counted from the stream's start and from the call's
   shift : (taken : ℕ) → before + (taken + 1) ≡ before + taken + 1
   shift taken = omega arith
 
-  event-tells : {s : Receiver} → Fit line s → (b : ℕ) (l : List ℕ) (taken : ℕ) → drop (before + (taken + 1)) stream ≡ l
+  event-tells : {s : Receiver} → Fit station s → (b : ℕ) (l : List ℕ) (taken : ℕ) → drop (before + (taken + 1)) stream ≡ l
       → let t = turnAt s b in
-      Tells (answering (moved s t) (outcomeAt s t) (taken + 1)) taken s (b ∷ l)
+      Tells (saidOf (moved s t) (outcomeAt s t) (taken + 1)) taken s (b ∷ l)
   unfolding tells
   event-tells {s} fit b l taken left =
       let t = turnAt s b in (
         fit-at fit b,
-        ap₂ _++_ (noted-seen fit (before + (taken + 1)) t) (ap (tell line (seen (moved s t)) (before + (taken + 1))) left)
-            ∙ ap (λ (n : ℕ). noted line (seen s) n t ++ tell line (seen (moved s t)) n l) (shift taken)
+        ap₂ _++_ (noted-seen fit (before + (taken + 1)) t) (ap (tell station (seen (moved s t)) (before + (taken + 1))) left)
+            ∙ ap (λ (n : ℕ). noted station (seen s) n t ++ tell station (seen (moved s t)) n l) (shift taken)
             ∙ sym (tell-record fit (before + taken) b l),
       )
 
-  on-tells : {s : Receiver} → Fit line s → (b : ℕ) (l : List ℕ) (taken : ℕ) (said : Said)
+  on-tells : {s : Receiver} → Fit station s → (b : ℕ) (l : List ℕ) (taken : ℕ) (said : Said)
       → hasEvent (turnAt s b) ≡ false
       → Tells said (taken + 1) (moved s (turnAt s b)) l
       → Tells said taken s (b ∷ l)
@@ -62,47 +62,47 @@ module _ (line : Line) (stream : List ℕ) (before : ℕ) where
       let t = turnAt s b in (
         rest .0,
         rest .1
-            ∙ ap (λ (n : ℕ). tell line (seen (moved s t)) n l) (shift taken)
-            ∙ ap (λ (e : List Told). e ++ tell line (seen (moved s t)) (before + taken + 1) l)
-            (sym (quiet line (seen s) (before + taken + 1) t none))
+            ∙ ap (λ (n : ℕ). tell station (seen (moved s t)) n l) (shift taken)
+            ∙ ap (λ (e : List Told). e ++ tell station (seen (moved s t)) (before + taken + 1) l)
+            (sym (quiet station (seen s) (before + taken + 1) t none))
             ∙ sym (tell-record fit (before + taken) b l),
       )
 
   left-next : (b : ℕ) (l : List ℕ) (taken : ℕ) → drop (before + taken) stream ≡ b ∷ l → drop (before + (taken + 1)) stream ≡ l
   left-next b l taken left = ap (λ (n : ℕ). drop n stream) (shift taken) ∙ drop-on stream (before + taken) 1 left
 
-  heard-tells : (rest piece : List ℕ) (taken : ℕ) (s : Receiver) → Fit line s → drop (before + taken) stream ≡ piece ++ rest
+  heard-tells : (rest piece : List ℕ) (taken : ℕ) (s : Receiver) → Fit station s → drop (before + taken) stream ≡ piece ++ rest
       → Tells (heard taken s piece) taken s (piece ++ rest)
   unfolding tells note
   heard-tells rest =
       heard-elim
-      (λ (taken : ℕ) (s : Receiver) (piece : List ℕ) (said : Said). Fit line s → drop (before + taken) stream ≡ piece ++ rest
+      (λ (taken : ℕ) (s : Receiver) (piece : List ℕ) (said : Said). Fit station s → drop (before + taken) stream ≡ piece ++ rest
       → Tells said taken s (piece ++ rest))
-      (λ taken s fit left. (fit, ap (tell line (seen s) (before + taken)) left))
+      (λ taken s fit left. (fit, ap (tell station (seen s) (before + taken)) left))
       (λ taken s b bs y fit left. event-tells fit b (bs ++ rest) taken (left-next b (bs ++ rest) taken left))
       (λ taken s b bs said n h fit left. on-tells fit b (bs ++ rest) taken said n
       (h (fit-at fit b) (left-next b (bs ++ rest) taken left)))
 
-module _ {line : Line} (good : hasStation line ≡ true) (stream : List ℕ) where
+module _ {station : Station} (good : hasAddress station ≡ true) (stream : List ℕ) where
   -- one call, by its statement
   call-tells : {s : Receiver} (before : ℕ) (piece rest : List ℕ) (r : Heard)
-      → Fit line s
+      → Fit station s
       → drop before stream ≡ piece ++ rest
       → saying r ≡ received s piece
-      → Fit line (r .receiver)
-      × (tells before (saying r) ++ tell line (seen (r .receiver)) (before + r .taken) (drop (before + r .taken) stream)
-      ≡ tell line (seen s) before (drop before stream))
+      → Fit station (r .receiver)
+      × (tells before (saying r) ++ tell station (seen (r .receiver)) (before + r .taken) (drop (before + r .taken) stream)
+      ≡ tell station (seen s) before (drop before stream))
   call-tells {s} before piece rest r fit continues says =
       let start : drop (before + 0) stream ≡ piece ++ rest = rw (add-zero before) continues in
       let says′ : saying r ≡ heard 0 s piece = says ∙ hears s piece (fit-good good fit) in
-      let h : Tells line stream before (saying r) 0 s (piece ++ rest) =
-      subst⁻¹ (λ (said : Said). Tells line stream before said 0 s (piece ++ rest)) says′
-      (heard-tells line stream before rest piece 0 s fit start) in
-      (h .0, h .1 ∙ ap₂ (tell line (seen s)) (add-zero before) (sym continues))
+      let h : Tells station stream before (saying r) 0 s (piece ++ rest) =
+      subst⁻¹ (λ (said : Said). Tells station stream before said 0 s (piece ++ rest)) says′
+      (heard-tells station stream before rest piece 0 s fit start) in
+      (h .0, h .1 ∙ ap₂ (tell station (seen s)) (add-zero before) (sym continues))
 
   -- a hearing tells what the bytes tell one by one
   pub hearing-tells : {s : Receiver} {before : ℕ} {all : List Told}
-      → Fit line s → Hearing stream s before all → all ≡ tell line (seen s) before (drop before stream)
+      → Fit station s → Hearing stream s before all → all ≡ tell station (seen s) before (drop before stream)
   unfolding tell
   hearing-tells fit (over out) = rw (drop-of-length-le stream out)
   hearing-tells {before} fit (call piece rest r continues says more) =

@@ -17,15 +17,15 @@ use Rattle.wire_spec.specs.Stuffing.{special, stuffed, stuffing}
 use Rattle.wire_spec.specs.Image.{start, stop, image}
 use Rattle.wire_spec.proofs.Laws.Stuffing.{stuffed-other, stuffed-partner, stuffing-append}
 use Rattle.link_spec.specs.declared.event.Verdict.{Verdict}
-use Rattle.link_spec.specs.declared.station.Line.{Line}
-use Rattle.link_spec.specs.declared.station.Line.the-variants.{Point, Addressed}
+use Rattle.link_spec.specs.declared.station.Station.{Station}
+use Rattle.link_spec.specs.declared.station.Station.the-variants.{Point, Addressed}
 use Rattle.link_spec.specs.declared.receiver.Phase.{Phase}
 use Rattle.link_spec.specs.declared.receiver.Phase.the-variants.{Outside, Inside, Pending}
 use Rattle.link_spec.specs.declared.receiver.Turn.{Turn}
 use Rattle.link_spec.specs.Limits.{leastContent}
-use Rattle.link_spec.specs.Line.{checkOn, checked, hasStation, Taken}
+use Rattle.link_spec.specs.Station.{checkOn, checked, hasAddress, Taken}
 use Rattle.link_spec.specs.Events.{Name, FRAME, LONG, PAIR, ADDR, named, happened, verdict}
-use Rattle.link_spec.specs.Rules.{Address, first, Later, onPoint, behind, ByRule, ignored, begins, stops, address, noAddress, waits, plain, pair, noPair, longPlain, longPair}
+use Rattle.link_spec.specs.Rules.{Address, first, Later, onPoint, afterFirst, ByRule, ignored, begins, stops, address, noAddress, waits, plain, pair, noPair, longPlain, longPair}
 use Rattle.link_spec.specs.Receiving.{outcome}
 use Rattle.link_spec.specs.Hearing.{Told, toldAt, note}
 use Rattle.link_spec.specs.Listing.{Stands}
@@ -42,21 +42,21 @@ abbrev wire : List ℕ → List ℕ
 wire k = start ∷ stuffing k
 
 -- what was heard ends in these bytes, and they hold a content that may be a frame's
-pub record Ends (line : Line) (heard : List ℕ) (kept bytes : List ℕ) : Type 0 where
+pub record Ends (station : Station) (heard : List ℕ) (kept bytes : List ℕ) : Type 0 where
   pub before : List ℕ
   pub split : heard ≡ before ++ bytes
   pub most : length kept ≤ mostContent
-  pub taken : Taken line kept
+  pub taken : Taken station kept
 
-abbrev pub Trace : Line → List ℕ → Phase → List ℕ → Type 0
-Trace line heard Outside kept = Unit {0}
-Trace line heard Inside kept = Ends line heard kept (wire kept)
-Trace line heard Pending kept = Ends line heard kept (wire kept ++ (0xFF ∷ [])) × Later line (length kept)
+abbrev pub Trace : Station → List ℕ → Phase → List ℕ → Type 0
+Trace station heard Outside kept = Unit {0}
+Trace station heard Inside kept = Ends station heard kept (wire kept)
+Trace station heard Pending kept = Ends station heard kept (wire kept ++ (0xFF ∷ [])) × Later station (length kept)
 
 -- one byte more
-ends-more : {line : Line} {heard k bytes : List ℕ} (l more : List ℕ) (b : ℕ)
-    → Ends line heard k bytes → bytes ++ (b ∷ []) ≡ more → length l ≤ mostContent → Taken line l
-    → Ends line (heard ++ (b ∷ [])) l more
+ends-more : {station : Station} {heard k bytes : List ℕ} (l more : List ℕ) (b : ℕ)
+    → Ends station heard k bytes → bytes ++ (b ∷ []) ≡ more → length l ≤ mostContent → Taken station l
+    → Ends station (heard ++ (b ∷ [])) l more
 ends-more {bytes} l more b e w m t =
     record {
       before = e .before;
@@ -65,44 +65,44 @@ ends-more {bytes} l more b e w m t =
       taken = t;
     }
 
-taken-none : (line : Line) → Taken line []
+taken-none : (station : Station) → Taken station []
 taken-none Point = tt
-taken-none (Addressed station) = tt
+taken-none (Addressed own) = tt
 
 -- the address is no byte that stuffing changes
-address-plain : {line : Line} {count b : ℕ} → hasStation line ≡ true → Address line count b true → special b ≡ false
-address-plain {b} good (first {station} f g t) = takes-plain station b good t
+address-plain : {station : Station} {count b : ℕ} → hasAddress station ≡ true → Address station count b true → special b ≡ false
+address-plain {b} good (first {own} f g t) = takes-plain own b good t
 
 -- a content begins with an address that is taken, and goes on with it
-taken-first : {line : Line} (k : List ℕ) (b : ℕ) → Address line (length k) b true → Taken line (k ++ (b ∷ []))
+taken-first : {station : Station} (k : List ℕ) (b : ℕ) → Address station (length k) b true → Taken station (k ++ (b ∷ []))
 taken-first [] b (first f g t) = t
 
-taken-later : {line : Line} (k : List ℕ) (b : ℕ) → Taken line k → Later line (length k) → Taken line (k ++ (b ∷ []))
+taken-later : {station : Station} (k : List ℕ) (b : ℕ) → Taken station k → Later station (length k) → Taken station (k ++ (b ∷ []))
 taken-later [] b taken onPoint = tt
 taken-later (a ∷ k) b taken onPoint = tt
-taken-later (a ∷ k) b taken behind = taken
+taken-later (a ∷ k) b taken afterFirst = taken
 
 wire-more : (k : List ℕ) (b : ℕ) → wire k ++ stuffed b ≡ wire (k ++ (b ∷ []))
 unfolding stuffing
 wire-more k b =
     ap (λ (l : List ℕ). start ∷ l) (sym (stuffing-append k (b ∷ []) ∙ ap (λ (l : List ℕ). stuffing k ++ l) (append-nil (stuffed b))))
 
-module _ (line : Line) (good : hasStation line ≡ true) (heard : List ℕ) where
+module _ (station : Station) (good : hasAddress station ≡ true) (heard : List ℕ) where
   -- a byte that stands for itself
-  trace-plain : (k : List ℕ) (b : ℕ) → special b ≡ false → length k < mostContent → Taken line (k ++ (b ∷ [])) → Ends line heard k (wire k)
+  trace-plain : (k : List ℕ) (b : ℕ) → special b ≡ false → length k < mostContent → Taken station (k ++ (b ∷ [])) → Ends station heard k (wire k)
       → let l = k ++ (b ∷ []) in
-      Ends line (heard ++ (b ∷ [])) l (wire l)
+      Ends station (heard ++ (b ∷ [])) l (wire l)
   trace-plain k b other room taken e =
       let l = k ++ (b ∷ []) in
       ends-more l (wire l) b e (rw (stuffed-other b other) at (wire-more k b)) (simp length-append (omega arith)) taken
 
-  trace-next : {phase : Phase} (k : List ℕ) (b : ℕ) {t : Turn} → ByRule line (length k) b phase t → Trace line heard phase k
+  trace-next : {phase : Phase} (k : List ℕ) (b : ℕ) {t : Turn} → ByRule station (length k) b phase t → Trace station heard phase k
       → let v = next (view phase k) t in
-      Trace line (heard ++ (b ∷ [])) (v .phase) (v .kept)
+      Trace station (heard ++ (b ∷ [])) (v .phase) (v .kept)
   unfolding next stuffing
   trace-next k b (ignored f) e = tt
   trace-next k b (begins s) e =
-      record { before = heard; split = ap (λ (x : ℕ). heard ++ (x ∷ [])) s; most = zero-le; taken = taken-none line }
+      record { before = heard; split = ap (λ (x : ℕ). heard ++ (x ∷ [])) s; most = zero-le; taken = taken-none station }
   trace-next k b (stops s) e = tt
   trace-next k b (address a) e =
       trace-plain k b (address-plain good a) (address-room a) (taken-first k b a) e
@@ -144,11 +144,11 @@ told-frame {place} {p} {content} {c} n =
     (ap (λ (x : Told). x .place) e, ap (λ (x : Told). x .event) e, ap (λ (x : Told). x .content) e))
     (λ f m. absurd (List·Memᴰ·not-nil m))
 
-module _ (line : Line) (good : hasStation line ≡ true) where
+module _ (station : Station) (good : hasAddress station ≡ true) where
   -- the start, the stuffing of a content and a stop are its image
-  image-stands : {content k heard : List ℕ} (rest : List ℕ) (b : ℕ) → checked line content ≡ k → leastContent ≤ length k → b ≡ stop
-      → Ends line heard k (wire k)
-      → Stands line (heard ++ (b ∷ rest)) (length heard + 1) content
+  image-stands : {content k heard : List ℕ} (rest : List ℕ) (b : ℕ) → checked station content ≡ k → leastContent ≤ length k → b ≡ stop
+      → Ends station heard k (wire k)
+      → Stands station (heard ++ (b ∷ rest)) (length heard + 1) content
   unfolding image
   image-stands {content} {k} {heard} rest b is least s e =
       let whole : heard ++ (b ∷ rest) ≡ e .before ++ (image k ++ rest) =
@@ -168,19 +168,19 @@ module _ (line : Line) (good : hasStation line ≡ true) where
         address = rw is (e .taken);
       }
 
-  stop-stands : (heard k rest : List ℕ) (b : ℕ) → b ≡ stop → Ends line heard k (wire k) → FRAME ≡ named (verdict (checkOn line) k .event)
-      → Stands line (heard ++ (b ∷ rest)) (length heard + 1) (take (verdict (checkOn line) k .length) k)
+  stop-stands : (heard k rest : List ℕ) (b : ℕ) → b ≡ stop → Ends station heard k (wire k) → FRAME ≡ named (verdict (checkOn station) k .event)
+      → Stands station (heard ++ (b ∷ rest)) (length heard + 1) (take (verdict (checkOn station) k .length) k)
   stop-stands heard k rest b s e frame =
-      let f = verdict-frame (checkOn line) k frame in
-      image-stands rest b (ap (withCheck (checkOn line)) (f .carried) ∙ sym (f .whole)) (f .least) s e
+      let f = verdict-frame (checkOn station) k frame in
+      image-stands rest b (ap (withCheck (checkOn station)) (f .carried) ∙ sym (f .whole)) (f .least) s e
 
   noted-stands : (heard rest : List ℕ) {phase : Phase} (k : List ℕ) (b place : ℕ) (content : List ℕ) {t : Turn}
-      → ByRule line (length k) b phase t → Trace line heard phase k
-      → List·Memᴰ (toldAt place FRAME content) (noted line (view phase k) (length heard + 1) t)
-      → Stands line (heard ++ (b ∷ rest)) place content
+      → ByRule station (length k) b phase t → Trace station heard phase k
+      → List·Memᴰ (toldAt place FRAME content) (noted station (view phase k) (length heard + 1) t)
+      → Stands station (heard ++ (b ∷ rest)) place content
   unfolding noted outcome note
   noted-stands heard rest k b place front (stops s) e m =
-      let f = told-frame (named (verdict (checkOn line) k .event)) m in
+      let f = told-frame (named (verdict (checkOn station) k .event)) m in
       rw (f .0, f .2) (stop-stands heard k rest b s e (f .1))
   noted-stands heard rest k b place front (noAddress a) e m = no-case (cc (told-frame ADDR m .1))
   noted-stands heard rest k b place front (noPair over f) e m = no-case (cc (told-frame PAIR m .1))
@@ -193,16 +193,16 @@ module _ (line : Line) (good : hasStation line ≡ true) where
   noted-stands heard rest k b place front (plain l other room) e m = absurd (List·Memᴰ·not-nil m)
   noted-stands heard rest k b place front (pair known room) e m = absurd (List·Memᴰ·not-nil m)
 
-  pub tell-stands : (w heard : List ℕ) (v : View) → Trace line heard (v .phase) (v .kept) → (place : ℕ) (content : List ℕ)
-      → List·Memᴰ (toldAt place FRAME content) (tell line v (length heard) w)
-      → Stands line (heard ++ w) place content
+  pub tell-stands : (w heard : List ℕ) (v : View) → Trace station heard (v .phase) (v .kept) → (place : ℕ) (content : List ℕ)
+      → List·Memᴰ (toldAt place FRAME content) (tell station v (length heard) w)
+      → Stands station (heard ++ w) place content
   unfolding tell
   tell-stands [] heard v e place content m = absurd (List·Memᴰ·not-nil m)
   tell-stands (b ∷ bs) heard v e place content m =
-      let t = turns line v b in
-      let why = turn-rule line (v .phase) (length (v .kept)) b in
-      let on = tell-stands bs (heard ++ (b ∷ [])) (next v t) (trace-next line good heard (v .kept) b why e) place content in
+      let t = turns station v b in
+      let why = turn-rule station (v .phase) (length (v .kept)) b in
+      let on = tell-stands bs (heard ++ (b ∷ [])) (next v t) (trace-next station good heard (v .kept) b why e) place content in
       let end : length heard + 1 ≡ length (heard ++ (b ∷ [])) = sym (length-append heard (b ∷ [])) in
       ⊎-elim (noted-stands heard bs (v .kept) b place content why e)
-      (λ n. rw append-assoc at (on (subst (λ (at : ℕ). List·Memᴰ (toldAt place FRAME content) (tell line (next v t) at bs)) end n)))
-      (List·Memᴰ·append-cases (noted line v (length heard + 1) t) m)
+      (λ n. rw append-assoc at (on (subst (λ (at : ℕ). List·Memᴰ (toldAt place FRAME content) (tell station (next v t) at bs)) end n)))
+      (List·Memᴰ·append-cases (noted station v (length heard + 1) t) m)

@@ -10,7 +10,7 @@ use Rattle.wire_spec.specs.Image.{image}
 use Rattle.wire_spec.specs.Writing.{imageWritten}
 use Rattle.link_spec.specs.Address.{takes}
 use Rattle.link_spec.specs.Frame.{pointContent, addressedContent}
-use Rattle.link_spec.specs.Writers.{written, pointWritten, addressedWritten}
+use Rattle.link_spec.specs.Writers.{writtenUnless, pointWritten, addressedWritten}
 use Rattle.link_spec.specs.Events.{verdict}
 use Rattle.link_spec.specs.Turning.{kept, plain, partner, contentByte, inside, within, turn}
 use Rattle.link_spec.specs.Receiving.{moved, outcome, heard, received}
@@ -18,7 +18,7 @@ use Rattle.link_spec.specs.Hearing.{note, tells}
 use Rattle.link_spec.specs.Examples.{Holds, examples}
 
 pub each-holds : Each Holds examples
-unfolding stuffed stuffing image shiftStep shiftSteps byteStep run residue fcs fcsBytes total sum checkOf withCheck pointContent addressedContent imageWritten written
+unfolding stuffed stuffing image shiftStep shiftSteps byteStep run residue fcs fcsBytes total sum checkOf withCheck pointContent addressedContent imageWritten writtenUnless
     pointWritten addressedWritten front came alike isRight takes kept plain partner contentByte inside within turn verdict moved outcome heard received note tells
 each-holds =
     refl and refl and refl and refl and refl and refl and refl and refl and refl and refl and refl

@@ -11,13 +11,13 @@ use borrow.Author.Tests.{le-ltb}
 use Rattle.checks.specs.declared.kind.Check.{Check}
 use Rattle.wire_spec.specs.Limits.{mostContent}
 use Rattle.link_spec.specs.declared.event.Verdict.{Verdict}
-use Rattle.link_spec.specs.declared.station.Line.{Line}
+use Rattle.link_spec.specs.declared.station.Station.{Station}
 use Rattle.link_spec.specs.declared.receiver.Turn.{Turn}
 use Rattle.link_spec.specs.declared.receiver.Turn.the-variants.{Rest, Begin, Wait, Keep, Stop, Tell}
 use Rattle.link_spec.specs.declared.receiver.Receiver.{Receiver}
-use Rattle.link_spec.specs.Line.{hasStation}
+use Rattle.link_spec.specs.Station.{hasAddress}
 use Rattle.link_spec.specs.Events.{verdict}
-use Rattle.link_spec.specs.Receiving.{fresh, turnAt, moved, outcome, badState}
+use Rattle.link_spec.specs.Receiving.{freshReceiver, turnAt, moved, outcome, badReceiver}
 use Rattle.link_spec.proofs.Laws.Turning.{Sound, turn-sound}
 use Rattle.link_spec.proofs.Laws.Events.{by-stop}
 
@@ -40,51 +40,51 @@ outcome-length check kept (Tell why) = zero-le
 
 -- the line and the array's size stay, and a count within the limit stays within it
 pub record Leaves (s r : Receiver) : Type 0 where
-  pub line : r .line ≡ s .line
+  pub station : r .station ≡ s .station
   pub sized : length (r .content) ≡ length (s .content)
   pub count : s .count ≤ mostContent → r .count ≤ mostContent
 
 pub leaves-all : (s : Receiver) → Leaves s s
-leaves-all s = record { line = refl; sized = refl; count = λ within. within }
+leaves-all s = record { station = refl; sized = refl; count = λ within. within }
 
 pub leaves-then : {s r q : Receiver} → Leaves s r → Leaves r q → Leaves s q
-leaves-then a b = record { line = b .line ∙ a .line; sized = b .sized ∙ a .sized; count = λ within. b .count (a .count within) }
+leaves-then a b = record { station = b .station ∙ a .station; sized = b .sized ∙ a .sized; count = λ within. b .count (a .count within) }
 
 pub turn-leaves : (s : Receiver) (t : Turn) → Sound (s .count) t → Leaves s (moved s t)
 unfolding moved
 turn-leaves s Rest sound = leaves-all s
-turn-leaves s Begin sound = record { line = refl; sized = refl; count = λ within. zero-le }
-turn-leaves s Wait sound = record { line = refl; sized = refl; count = λ within. within }
+turn-leaves s Begin sound = record { station = refl; sized = refl; count = λ within. zero-le }
+turn-leaves s Wait sound = record { station = refl; sized = refl; count = λ within. within }
 turn-leaves s (Keep b) room =
-    record { line = refl; sized = length-set (s .content) (s .count) b; count = λ within. omega (arith, room) }
-turn-leaves s Stop sound = record { line = refl; sized = refl; count = λ within. zero-le }
-turn-leaves s (Tell why) sound = record { line = refl; sized = refl; count = λ within. zero-le }
+    record { station = refl; sized = length-set (s .content) (s .count) b; count = λ within. omega (arith, room) }
+turn-leaves s Stop sound = record { station = refl; sized = refl; count = λ within. zero-le }
+turn-leaves s (Tell why) sound = record { station = refl; sized = refl; count = λ within. zero-le }
 
 -- a byte that is kept has room, and what is told is an event
 pub sound-at : (s : Receiver) (b : ℕ) → Sound (s .count) (turnAt s b)
-sound-at s b = turn-sound (s .line) (s .phase) (s .count) b
+sound-at s b = turn-sound (s .station) (s .phase) (s .count) b
 
 pub leaves-at : (s : Receiver) (b : ℕ) → Leaves s (moved s (turnAt s b))
 leaves-at s b = turn-leaves s (turnAt s b) (sound-at s b)
 
 -- ---- a record of this line, with a count within the limit and a full array
 
-pub record Fit (line : Line) (s : Receiver) : Type 0 where
-  pub on : s .line ≡ line
+pub record Fit (station : Station) (s : Receiver) : Type 0 where
+  pub on : s .station ≡ station
   pub sized : length (s .content) ≡ mostContent
   pub within : s .count ≤ mostContent
 
-pub fresh-fit : (line : Line) → Fit line (fresh line)
-fresh-fit line = record { on = refl; sized = length-replicate {A = ℕ} mostContent 0; within = zero-le }
+pub fresh-fit : (station : Station) → Fit station (freshReceiver station)
+fresh-fit station = record { on = refl; sized = length-replicate {A = ℕ} mostContent 0; within = zero-le }
 
-pub fit-moved : {line : Line} {s : Receiver} → Fit line s → (t : Turn) → Sound (s .count) t → Fit line (moved s t)
+pub fit-moved : {station : Station} {s : Receiver} → Fit station s → (t : Turn) → Sound (s .count) t → Fit station (moved s t)
 fit-moved {s} fit t sound =
     let l = turn-leaves s t sound in
-    record { on = l .line ∙ fit .on; sized = l .sized ∙ fit .sized; within = l .count (fit .within) }
+    record { on = l .station ∙ fit .on; sized = l .sized ∙ fit .sized; within = l .count (fit .within) }
 
-pub fit-at : {line : Line} {s : Receiver} → Fit line s → (b : ℕ) → Fit line (moved s (turnAt s b))
+pub fit-at : {station : Station} {s : Receiver} → Fit station s → (b : ℕ) → Fit station (moved s (turnAt s b))
 fit-at {s} fit b = fit-moved fit (turnAt s b) (sound-at s b)
 
 -- no row of the refusal table names it
-pub fit-good : {line : Line} {s : Receiver} → hasStation line ≡ true → Fit line s → badState s ≡ false
+pub fit-good : {station : Station} {s : Receiver} → hasAddress station ≡ true → Fit station s → badReceiver s ≡ false
 fit-good {s} good fit = rw (le-ltb mostContent (s .count) (fit .within), fit .on, good)

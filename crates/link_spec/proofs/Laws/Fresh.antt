@@ -6,12 +6,12 @@ use Prim.Native.Nat.{ℕ, _<_}
 use native.Mathlib.Omega.{arith}
 use Rattle.ground.specs.declared.refusal.Refusal.the-variants.{None, BadAddress}
 use Rattle.ground.specs.Refusals.{number}
-use Rattle.link_spec.specs.declared.station.Line.{Line}
-use Rattle.link_spec.specs.declared.station.Line.the-variants.{Point, Addressed}
+use Rattle.link_spec.specs.declared.station.Station.{Station}
+use Rattle.link_spec.specs.declared.station.Station.the-variants.{Point, Addressed}
 use Rattle.link_spec.specs.declared.receiver.Receiver.{Receiver}
 use Rattle.link_spec.specs.Address.{isBroadcast, isNever, isStation}
-use Rattle.link_spec.specs.Line.{hasStation}
-use Rattle.link_spec.specs.Receiving.{fresh, Made, freshMade, badState}
+use Rattle.link_spec.specs.Station.{hasAddress}
+use Rattle.link_spec.specs.Receiving.{freshReceiver, Made, freshMade, badReceiver}
 use Rattle.link_spec.specs.Hearing.{IsFresh, point, addressed}
 use Rattle.link_spec.proofs.Laws.Address.{station-kinds}
 use Rattle.link_spec.proofs.Laws.Fit.{Fit, fresh-fit, fit-good}
@@ -23,38 +23,38 @@ unfolding freshMade
 refuses-new a byte = station-kinds a byte (number BadAddress)
 
 -- refused or not, what comes with it
-pub receiver-made : (station : ℕ) → freshMade station .receiver ≡ fresh (Addressed station)
+pub receiver-made : (own : ℕ) → freshMade own .receiver ≡ freshReceiver (Addressed own)
 unfolding freshMade
-receiver-made station = refl
+receiver-made own = refl
 
 -- the point line has one, and so has every station
-pub fresh-point : IsFresh Point (fresh Point)
+pub fresh-point : IsFresh Point (freshReceiver Point)
 fresh-point = point refl
 
-pub fresh-station : (station : ℕ) → isStation station ≡ true → IsFresh (Addressed station) (fresh (Addressed station))
+pub fresh-station : (own : ℕ) → isStation own ≡ true → IsFresh (Addressed own) (freshReceiver (Addressed own))
 unfolding freshMade
-fresh-station station good = addressed (record { refusal = None; receiver = fresh (Addressed station) }) {station = station} (rw good) refl
+fresh-station own good = addressed (record { refusal = None; receiver = freshReceiver (Addressed own) }) {own = own} (rw good) refl
 
 -- a receiver of this line that no row of the refusal table names, outside a frame
-pub record Begins (line : Line) (s : Receiver) : Type 0 where
-  pub good : hasStation line ≡ true
-  pub fit : Fit line s
+pub record Begins (station : Station) (s : Receiver) : Type 0 where
+  pub good : hasAddress station ≡ true
+  pub fit : Fit station s
   pub nowhere : seen s ≡ nowhere
 
-fresh-on : (line : Line) → hasStation line ≡ true → Begins line (fresh line)
-fresh-on line good = record { good = good; fit = fresh-fit line; nowhere = refl }
+fresh-on : (station : Station) → hasAddress station ≡ true → Begins station (freshReceiver station)
+fresh-on station good = record { good = good; fit = fresh-fit station; nowhere = refl }
 
 accepted : (t : Bool) → cond t 0 (number BadAddress) ≡ 0 → t ≡ true
 accepted true e = refl
 accepted false e = absurd (omega arith)
 
-pub fresh-begins : {line : Line} {s : Receiver} → IsFresh line s → Begins line s
+pub fresh-begins : {station : Station} {s : Receiver} → IsFresh station s → Begins station s
 unfolding freshMade
 fresh-begins (point e) = subst⁻¹ (Begins Point) e (fresh-on Point refl)
-fresh-begins (addressed r {station} says taken) =
-    let good = accepted (isStation station) (sym (ap (λ (m : Made). m .refusal) says) ∙ taken) in
-    subst⁻¹ (Begins (Addressed station)) (ap (λ (m : Made). m .receiver) says) (fresh-on (Addressed station) good)
+fresh-begins (addressed r {own} says taken) =
+    let good = accepted (isStation own) (sym (ap (λ (m : Made). m .refusal) says) ∙ taken) in
+    subst⁻¹ (Begins (Addressed own)) (ap (λ (m : Made). m .receiver) says) (fresh-on (Addressed own) good)
 
 -- no row of the refusal table names it
-pub fresh-good : {line : Line} {s : Receiver} → IsFresh line s → badState s ≡ false
+pub fresh-good : {station : Station} {s : Receiver} → IsFresh station s → badReceiver s ≡ false
 fresh-good fr = let b = fresh-begins fr in fit-good (b .good) (b .fit)

@@ -9,21 +9,21 @@ use native.Mathlib.Omega.{arith}
 use lib.ListN.{length, take, drop}
 use lib.Seq.{take-append-seam}
 use Rattle.ground.specs.declared.refusal.Counted.{Counted}
-use Rattle.ground.specs.Refusals.{answered}
+use Rattle.ground.specs.Refusals.{tally}
 use Rattle.checks.specs.declared.kind.Check.the-variants.{Fcs, Sum}
 use Rattle.checks.specs.Check.{withCheck}
 use Rattle.checks.proofs.Laws.Check.{length-withCheck}
 use Rattle.wire_spec.specs.Limits.{mostContent}
 use Rattle.wire_spec.specs.Image.{image}
 use Rattle.wire_spec.specs.Writing.{After, after}
-use Rattle.link_spec.specs.declared.station.Line.{Line}
-use Rattle.link_spec.specs.declared.station.Line.the-variants.{Point, Addressed}
+use Rattle.link_spec.specs.declared.station.Station.{Station}
+use Rattle.link_spec.specs.declared.station.Station.the-variants.{Point, Addressed}
 use Rattle.link_spec.specs.declared.receiver.Receiver.{Receiver}
 use Rattle.link_spec.specs.Limits.{leastContent, mostData}
 use Rattle.link_spec.specs.Address.{isNever, takes}
-use Rattle.link_spec.specs.Line.{checked, hasStation, Taken}
+use Rattle.link_spec.specs.Station.{checked, hasAddress, Taken}
 use Rattle.link_spec.specs.Frame.{pointContent, addressedContent}
-use Rattle.link_spec.specs.Writers.{written, pointWritten, addressedWritten, ByTable, tooLong, badAddress, noRoom, frame}
+use Rattle.link_spec.specs.Writers.{writtenUnless, pointWritten, addressedWritten, WriterTable, tooLong, badAddress, noRoom, frame}
 use Rattle.link_spec.specs.Events.{FRAME}
 use Rattle.link_spec.specs.Hearing.{Told, toldAt, IsFresh, Hearing}
 use Rattle.link_spec.specs.Listing.{Fields, onPoint, onAddressed, IsImage}
@@ -38,10 +38,10 @@ use Rattle.link_spec.proofs.Laws.Demand.{hearing-lists}
 -- what a writer that refused nothing has written
 record Wrote («data» content : List ℕ) (w : After) : Type 0 where
   fits : length «data» ≤ mostData
-  bytes : take (w .answer .count) (w .out) ≡ image content
-  counts : w .answer .count ≡ length (image content)
+  bytes : take (w .tally .count) (w .out) ≡ image content
+  counts : w .tally .count ≡ length (image content)
 
-table-wrote : {never : Bool} {«data» content out : List ℕ} {w : After} → ByTable never «data» content out w → w .answer .refusal ≡ 0
+table-wrote : {never : Bool} {«data» content out : List ℕ} {w : After} → WriterTable never «data» content out w → w .tally .refusal ≡ 0
     → Wrote «data» content w
 table-wrote (tooLong long) none = absurd (omega arith)
 table-wrote (badAddress fits bad) none = absurd (omega arith)
@@ -49,25 +49,25 @@ table-wrote (noRoom fits good short) none = absurd (omega arith)
 table-wrote {content} {out} (frame fits good room) none =
     record { fits = fits; bytes = take-append-seam (image content) (drop (length (image content)) out); counts = refl }
 
-wrote : (never : Bool) («data» content out : List ℕ) (r : Counted) {out′ : List ℕ} → after r out′ ≡ written never «data» content out
-    → answered r .refusal ≡ 0
+wrote : (never : Bool) («data» content out : List ℕ) (r : Counted) {out′ : List ℕ} → after r out′ ≡ writtenUnless never «data» content out
+    → tally r .refusal ≡ 0
     → Wrote «data» content (after r out′)
 wrote never «data» content out r says none =
     subst⁻¹ (Wrote «data» content) says
-    (table-wrote (by-table never «data» content out) (sym (ap (λ (a : After). a .answer .refusal) says) ∙ none))
+    (table-wrote (by-table never «data» content out) (sym (ap (λ (a : After). a .tally .refusal) says) ∙ none))
 
 -- the image of a content with its check, put anywhere into any stream, is told there, and so is what a writer wrote
-module _ (line : Line) (front «data» before rest : List ℕ) (long : length (checked line front) ≡ leastContent + length «data»)
-    (taken : Taken line (checked line front)) {s : Receiver} {all : List Told} (fr : IsFresh line s) where
-  image-listed : length «data» ≤ mostData → let bytes = image (checked line front) in
+module _ (station : Station) (front «data» before rest : List ℕ) (long : length (checked station front) ≡ leastContent + length «data»)
+    (taken : Taken station (checked station front)) {s : Receiver} {all : List Told} (fr : IsFresh station s) where
+  image-listed : length «data» ≤ mostData → let bytes = image (checked station front) in
       Hearing (before ++ (bytes ++ rest)) s 0 all
       → List·Memᴰ (toldAt (length before + length bytes) FRAME front) all
   image-listed fits h =
-      hearing-lists fr h .each (length before + length (image (checked line front))) front
+      hearing-lists fr h .each (length before + length (image (checked station front))) front
       (record { before = before; after = rest; split = refl; ends = refl; least = omega arith; most = omega arith; address = taken })
 
-  wrote-listed : {w : After} → Wrote «data» (checked line front) w → Hearing (before ++ (take (w .answer .count) (w .out) ++ rest)) s 0 all
-      → List·Memᴰ (toldAt (length before + w .answer .count) FRAME front) all
+  wrote-listed : {w : After} → Wrote «data» (checked station front) w → Hearing (before ++ (take (w .tally .count) (w .out) ++ rest)) s 0 all
+      → List·Memᴰ (toldAt (length before + w .tally .count) FRAME front) all
   wrote-listed w h =
       rw (w .counts) (image-listed (w .fits) (subst (λ (l : List ℕ). Hearing (before ++ (l ++ rest)) s 0 all) (w .bytes) h))
 
@@ -84,7 +84,7 @@ point-image-listed identifier command «data» before rest fits fr =
 -- every image that a writer wrote, put anywhere into any stream, is listed there with what was written
 pub point-listed : (r : Counted) (identifier command : ℕ) («data» out out′ before rest : List ℕ) {s : Receiver} {all : List Told}
     → after r out′ ≡ pointWritten identifier command «data» out
-    → answered r .refusal ≡ 0
+    → tally r .refusal ≡ 0
     → IsFresh Point s
     → Hearing (before ++ (take (r .count) out′ ++ rest)) s 0 all
     → List·Memᴰ (toldAt (length before + r .count) FRAME (identifier ∷ command ∷ «data»)) all
@@ -93,43 +93,43 @@ point-listed r identifier command «data» out out′ before rest says none fr =
     wrote-listed Point (identifier ∷ command ∷ «data») «data» before rest (length-point identifier command «data») tt fr
     (wrote false «data» (pointContent identifier command «data») out r says none)
 
-pub addressed-listed : (r : Counted) (station address identifier command : ℕ)
+pub addressed-listed : (r : Counted) (own address identifier command : ℕ)
     («data» out out′ before rest : List ℕ) {s : Receiver} {all : List Told}
     → after r out′ ≡ addressedWritten address identifier command «data» out
-    → answered r .refusal ≡ 0
-    → takes station address ≡ true
-    → IsFresh (Addressed station) s
+    → tally r .refusal ≡ 0
+    → takes own address ≡ true
+    → IsFresh (Addressed own) s
     → Hearing (before ++ (take (r .count) out′ ++ rest)) s 0 all
     → List·Memᴰ (toldAt (length before + r .count) FRAME (address ∷ identifier ∷ command ∷ «data»)) all
 unfolding addressedWritten addressedContent withCheck
-addressed-listed r station address identifier command «data» out out′ before rest says none taken fr =
-    wrote-listed (Addressed station) (address ∷ identifier ∷ command ∷ «data») «data» before rest
+addressed-listed r own address identifier command «data» out out′ before rest says none taken fr =
+    wrote-listed (Addressed own) (address ∷ identifier ∷ command ∷ «data») «data» before rest
     (length-addressed address identifier command «data») taken fr
     (wrote (isNever address) «data» (addressedContent address identifier command «data») out r says none)
 
 -- ---- the desk's side
 
 -- a content of 4 to 64 bytes has all that its line's frames have, and the writer writes it
-fields : (line : Line) → hasStation line ≡ true → (front : List ℕ) → leastContent ≤ length (checked line front)
-    → length (checked line front) ≤ mostContent → Taken line (checked line front)
-    → Fields line front (checked line front)
+fields : (station : Station) → hasAddress station ≡ true → (front : List ℕ) → leastContent ≤ length (checked station front)
+    → length (checked station front) ≤ mostContent → Taken station (checked station front)
+    → Fields station front (checked station front)
 unfolding withCheck pointContent addressedContent
 fields Point good [] least most taken = absurd (omega (arith, length-withCheck Fcs []))
 fields Point good (a ∷ []) least most taken = absurd (omega (arith, length-withCheck Fcs (a ∷ [])))
 fields Point good (identifier ∷ command ∷ «data») least most taken =
     onPoint identifier command «data»
     (λ out room. point-writes identifier command «data» out (omega (arith, length-point identifier command «data»)) room)
-fields (Addressed station) good [] least most taken = absurd (omega (arith, length-withCheck Sum []))
-fields (Addressed station) good (a ∷ []) least most taken = absurd (omega (arith, length-withCheck Sum (a ∷ [])))
-fields (Addressed station) good (a ∷ b ∷ []) least most taken = absurd (omega (arith, length-withCheck Sum (a ∷ b ∷ [])))
-fields (Addressed station) good (address ∷ identifier ∷ command ∷ «data») least most taken =
+fields (Addressed own) good [] least most taken = absurd (omega (arith, length-withCheck Sum []))
+fields (Addressed own) good (a ∷ []) least most taken = absurd (omega (arith, length-withCheck Sum (a ∷ [])))
+fields (Addressed own) good (a ∷ b ∷ []) least most taken = absurd (omega (arith, length-withCheck Sum (a ∷ b ∷ [])))
+fields (Addressed own) good (address ∷ identifier ∷ command ∷ «data») least most taken =
     onAddressed address identifier command «data» taken
-    (λ out room. addressed-writes address identifier command «data» out (omega (arith, takes-lt station address good taken))
+    (λ out room. addressed-writes address identifier command «data» out (omega (arith, takes-lt own address good taken))
     (omega (arith, length-addressed address identifier command «data»)) room)
 
 -- every listed frame is the image that the writer writes of what it lists, byte for byte
-pub listed-image : {line : Line} {s : Receiver} {stream : List ℕ} {all : List Told} → IsFresh line s → Hearing stream s 0 all
-    → (place : ℕ) (front : List ℕ) → List·Memᴰ (toldAt place FRAME front) all → IsImage line stream place front
-listed-image {line} fr h place front m =
+pub listed-image : {station : Station} {s : Receiver} {stream : List ℕ} {all : List Told} → IsFresh station s → Hearing stream s 0 all
+    → (place : ℕ) (front : List ℕ) → List·Memᴰ (toldAt place FRAME front) all → IsImage station stream place front
+listed-image {station} fr h place front m =
     let s = hearing-lists fr h .only place front m in
-    record { stands = s; fields = fields line (fresh-begins fr .good) front (s .least) (s .most) (s .address) }
+    record { stands = s; fields = fields station (fresh-begins fr .good) front (s .least) (s .most) (s .address) }

@@ -19,9 +19,9 @@ use Rattle.link_spec.specs.declared.receiver.Turn.{Turn}
 use Rattle.link_spec.specs.declared.receiver.Turn.the-variants.{Rest, Begin, Wait, Keep, Stop, Tell}
 use Rattle.link_spec.specs.declared.receiver.Receiver.{Receiver}
 use Rattle.link_spec.specs.declared.receiver.Heard.{Heard}
-use Rattle.link_spec.specs.Line.{checkOn, hasStation}
+use Rattle.link_spec.specs.Station.{checkOn, hasAddress}
 use Rattle.link_spec.specs.Events.{NONE, named, happened, silent, verdict}
-use Rattle.link_spec.specs.Receiving.{soFar, turnAt, moved, hasEvent, outcome, outcomeAt, answering, heard, badState, refusedState, Said, saying, received}
+use Rattle.link_spec.specs.Receiving.{soFar, turnAt, moved, hasEvent, outcome, outcomeAt, saidOf, heard, badReceiver, notHeard, Said, saying, received}
 use Rattle.link_spec.proofs.Laws.Turning.{Sound}
 use Rattle.link_spec.proofs.Laws.Events.{by-stop}
 use Rattle.link_spec.proofs.Laws.Fit.{outcome-length, Leaves, leaves-all, leaves-then, sound-at, leaves-at, Fit, fit-moved}
@@ -30,9 +30,9 @@ use Rattle.link_spec.proofs.Laws.Fit.{outcome-length, Leaves, leaves-al
 
 -- what holds at the piece's end and at an event, and goes from each byte with no event to the bytes before, holds of what was heard
 module _ (P : ℕ → Receiver → List ℕ → Said → Type 0)
-    (out : (taken : ℕ) (s : Receiver) → P taken s [] (answering s silent taken))
+    (out : (taken : ℕ) (s : Receiver) → P taken s [] (saidOf s silent taken))
     (event : (taken : ℕ) (s : Receiver) (b : ℕ) (bs : List ℕ) → hasEvent (turnAt s b) ≡ true
-    → P taken s (b ∷ bs) (answering (moved s (turnAt s b)) (outcomeAt s (turnAt s b)) (taken + 1)))
+    → P taken s (b ∷ bs) (saidOf (moved s (turnAt s b)) (outcomeAt s (turnAt s b)) (taken + 1)))
     (on : (taken : ℕ) (s : Receiver) (b : ℕ) (bs : List ℕ) (said : Said) → hasEvent (turnAt s b) ≡ false
     → P (taken + 1) (moved s (turnAt s b)) bs said → P taken s (b ∷ bs) said) where
   pub heard-elim : (piece : List ℕ) (taken : ℕ) (s : Receiver) → P taken s piece (heard taken s piece)
@@ -46,43 +46,43 @@ module _ (P : ℕ → Receiver → List ℕ → Said → Type 0)
 -- ---- row 4 of the refusal table: when, and else the piece is heard
 
 module _ (s : Receiver) (piece : List ℕ) where
-  pub refuses-count : mostContent < s .count → received s piece ≡ refusedState s
+  pub refuses-count : mostContent < s .count → received s piece ≡ notHeard s
   unfolding received
   refuses-count over = rw (lt-ltb mostContent (s .count) over)
 
-  pub refuses-station : hasStation (s .line) ≡ false → received s piece ≡ refusedState s
+  pub refuses-station : hasAddress (s .station) ≡ false → received s piece ≡ notHeard s
   unfolding received
   refuses-station bad = rw (bad, or-true)
 
-  pub refuses-bad : badState s ≡ true → received s piece ≡ refusedState s
+  pub refuses-bad : badReceiver s ≡ true → received s piece ≡ notHeard s
   unfolding received
   refuses-bad bad = rw bad
 
-  pub hears : badState s ≡ false → received s piece ≡ heard 0 s piece
+  pub hears : badReceiver s ≡ false → received s piece ≡ heard 0 s piece
   unfolding received
   hears good = rw good
 
-  pub hears-piece : s .count ≤ mostContent → hasStation (s .line) ≡ true → received s piece ≡ heard 0 s piece
+  pub hears-piece : s .count ≤ mostContent → hasAddress (s .station) ≡ true → received s piece ≡ heard 0 s piece
   hears-piece within good = hears (rw (le-ltb mostContent (s .count) within, good))
 
   -- and only then
-  pub refused-only : received s piece .refusal ≡ cond (badState s) (number BadState) 0
+  pub refused-only : received s piece .refusal ≡ cond (badReceiver s) (number BadState) 0
   unfolding received
   refused-only =
-      by-test (λ (t : Bool). cond t (refusedState s) (heard 0 s piece) .refusal ≡ cond t (number BadState) 0) (badState s) (λ bad. refl)
+      by-test (λ (t : Bool). cond t (notHeard s) (heard 0 s piece) .refusal ≡ cond t (number BadState) 0) (badReceiver s) (λ bad. refl)
       (λ good. heard-elim (λ (n : ℕ) (r : Receiver) (p : List ℕ) (said : Said). said .refusal ≡ 0) (λ n r. refl) (λ n r b bs e. refl)
       (λ n r b bs said e h. h) piece 0 s)
 
 -- a receiver that no call refuses has no more content than there is place for
-pub good-count : (s : Receiver) → badState s ≡ false → s .count ≤ mostContent
-good-count s good = ltb-false mostContent (s .count) (or-none (ltb mostContent (s .count)) (not (hasStation (s .line))) good .0)
+pub good-count : (s : Receiver) → badReceiver s ≡ false → s .count ≤ mostContent
+good-count s good = ltb-false mostContent (s .count) (or-none (ltb mostContent (s .count)) (not (hasAddress (s .station))) good .0)
 
 -- a refused call leaves the receiver as before
 pub received-keeps : (s : Receiver) (piece : List ℕ) → Keeps (received s piece .refusal) s (received s piece .receiver)
 unfolding received
 received-keeps s piece =
-    by-test (λ (t : Bool). cond t (refusedState s) (heard 0 s piece) .refusal ≡ cond t (number BadState) 0
-    → Keeps (cond t (refusedState s) (heard 0 s piece) .refusal) s (cond t (refusedState s) (heard 0 s piece) .receiver)) (badState s)
+    by-test (λ (t : Bool). cond t (notHeard s) (heard 0 s piece) .refusal ≡ cond t (number BadState) 0
+    → Keeps (cond t (notHeard s) (heard 0 s piece) .refusal) s (cond t (notHeard s) (heard 0 s piece) .receiver)) (badReceiver s)
     (λ bad says refused. refl) (λ good says refused. absurd (refused says)) (refused-only s piece)
 
 -- every call has a result
@@ -100,7 +100,7 @@ heard-answers =
 pub received-answers : (s : Receiver) (piece : List ℕ) → (r : Heard) × (saying r ≡ received s piece)
 unfolding received
 received-answers s piece =
-    cond-elim (λ (said : Said). (r : Heard) × (saying r ≡ said)) (badState s)
+    cond-elim (λ (said : Said). (r : Heard) × (saying r ≡ said)) (badReceiver s)
     (λ bad. (record { refusal = BadState; receiver = s; event = silent .event; content = s .content; length = 0; taken = 0 }, refl))
     (λ good. heard-answers piece 0 s)
 
@@ -108,7 +108,7 @@ received-answers s piece =
 pub empty-piece : (s : Receiver) → received s [] .receiver ≡ s × received s [] .event ≡ NONE × received s [] .taken ≡ 0
 unfolding received heard
 empty-piece s =
-    cond-elim (λ (said : Said). said .receiver ≡ s × said .event ≡ NONE × said .taken ≡ 0) (badState s) (λ t. (refl, refl, refl))
+    cond-elim (λ (said : Said). said .receiver ≡ s × said .event ≡ NONE × said .taken ≡ 0) (badReceiver s) (λ t. (refl, refl, refl))
     (λ f. (refl, refl, refl))
 
 -- ---- what a call takes
@@ -129,7 +129,7 @@ turn-happens check k count Stop sound y = verdict-happens check k
 turn-happens check k count (Tell why) sound y = sound
 
 pub event-happens : (s : Receiver) (b : ℕ) → hasEvent (turnAt s b) ≡ true → happened (named (outcomeAt s (turnAt s b) .event)) ≡ true
-event-happens s b = turn-happens (checkOn (s .line)) (soFar s) (s .count) (turnAt s b) (sound-at s b)
+event-happens s b = turn-happens (checkOn (s .station)) (soFar s) (s .count) (turnAt s b) (sound-at s b)
 
 -- no byte back, none behind the piece, at least one of a piece that has one, and all where nothing is told
 pub record Takes (taken : ℕ) (piece : List ℕ) (said : Said) : Type 0 where
@@ -156,10 +156,10 @@ heard-takes =
     })
 
 -- of a call that is not refused
-pub received-takes : (s : Receiver) (piece : List ℕ) → badState s ≡ false → Takes 0 piece (received s piece)
+pub received-takes : (s : Receiver) (piece : List ℕ) → badReceiver s ≡ false → Takes 0 piece (received s piece)
 received-takes s piece good = rw (hears s piece good) (heard-takes piece 0 s)
 
-pub takes-one : (s : Receiver) → badState s ≡ false → (b : ℕ) → received s (b ∷ []) .taken ≡ 1
+pub takes-one : (s : Receiver) → badReceiver s ≡ false → (b : ℕ) → received s (b ∷ []) .taken ≡ 1
 takes-one s good b = let t = received-takes s (b ∷ []) good in omega (arith, t .most, t .some (omega arith))
 
 -- ---- what it leaves and carries
@@ -175,25 +175,25 @@ heard-stays =
     (λ taken s within. record { leaves = leaves-all s; carries = zero-le })
     (λ taken s b bs y within. record {
       leaves = leaves-at s b;
-      carries = omega (arith, outcome-length (checkOn (s .line)) (soFar s) (turnAt s b), length-take (s .count) (s .content));
+      carries = omega (arith, outcome-length (checkOn (s .station)) (soFar s) (turnAt s b), length-take (s .count) (s .content));
     })
     (λ taken s b bs said n h within. let r = h (leaves-at s b .count within) in
     record { leaves = leaves-then (leaves-at s b) (r .leaves); carries = r .carries })
 
-pub stays-good : (s : Receiver) (piece : List ℕ) → badState s ≡ false → badState (received s piece .receiver) ≡ false
+pub stays-good : (s : Receiver) (piece : List ℕ) → badReceiver s ≡ false → badReceiver (received s piece .receiver) ≡ false
 stays-good s piece good =
-    let parts = or-none (ltb mostContent (s .count)) (not (hasStation (s .line))) good in
+    let parts = or-none (ltb mostContent (s .count)) (not (hasAddress (s .station))) good in
     let within = ltb-false mostContent (s .count) (parts .0) in
     let l = heard-stays piece 0 s within .leaves in
-    rw (hears s piece good, le-ltb mostContent (heard 0 s piece .receiver .count) (l .count within), l .line) (parts .1)
+    rw (hears s piece good, le-ltb mostContent (heard 0 s piece .receiver .count) (l .count within), l .station) (parts .1)
 
 -- what an event carries lies within the answer's content
 pub length-within : (s : Receiver) (piece : List ℕ) → received s piece .length ≤ mostContent
 unfolding received
 length-within s piece =
-    cond-elim (λ (said : Said). said .length ≤ mostContent) (badState s) (λ t. zero-le)
+    cond-elim (λ (said : Said). said .length ≤ mostContent) (badReceiver s) (λ t. zero-le)
     (λ f. heard-stays piece 0 s
-    (ltb-false mostContent (s .count) (or-none (ltb mostContent (s .count)) (not (hasStation (s .line))) f .0)) .carries)
+    (ltb-false mostContent (s .count) (or-none (ltb mostContent (s .count)) (not (hasAddress (s .station))) f .0)) .carries)
 
 -- ---- how the loop goes
 
@@ -201,12 +201,12 @@ length-within s piece =
 -- receiver on.
 pub record Going (piece : List ℕ) (first : Receiver) (taken : ℕ) (s : Receiver) : Type 0 where
   pub part : taken ≤ length piece
-  pub fit : Fit (first .line) s
+  pub fit : Fit (first .station) s
   pub same : heard taken s (drop taken piece) ≡ heard 0 first piece
 
 module _ {piece : List ℕ} {first : Receiver} {taken : ℕ} {s : Receiver} (going : Going piece first taken s) where
   -- at the piece's end
-  pub runs-out : length piece ≤ taken → answering s silent taken ≡ heard 0 first piece
+  pub runs-out : length piece ≤ taken → saidOf s silent taken ≡ heard 0 first piece
   unfolding heard
   runs-out end = rw (drop-of-length-le piece end) at (going .same)
 
@@ -222,6 +222,6 @@ module _ {piece : List ℕ} {first : Receiver} {taken : ℕ} {s : Receiver} (goi
         }
 
     -- the byte of an event
-    pub breaks-off : hasEvent t ≡ true → answering (moved s t) (outcomeAt s t) (taken + 1) ≡ heard 0 first piece
+    pub breaks-off : hasEvent t ≡ true → saidOf (moved s t) (outcomeAt s t) (taken + 1) ≡ heard 0 first piece
     unfolding heard
     breaks-off one = rw (drop-next piece taken more, ← is, one) at (going .same)

@@ -13,8 +13,8 @@ use Rattle.wire_spec.specs.Stuffing.{special}
 use Rattle.wire_spec.specs.Image.{start, stop}
 use Rattle.wire_spec.proofs.Laws.Stuffing.{plain-ne}
 use Rattle.link_spec.specs.declared.event.Event.the-variants.{Long, Addr}
-use Rattle.link_spec.specs.declared.station.Line.{Line}
-use Rattle.link_spec.specs.declared.station.Line.the-variants.{Point, Addressed}
+use Rattle.link_spec.specs.declared.station.Station.{Station}
+use Rattle.link_spec.specs.declared.station.Station.the-variants.{Point, Addressed}
 use Rattle.link_spec.specs.declared.receiver.Phase.{Phase}
 use Rattle.link_spec.specs.declared.receiver.Phase.the-variants.{Outside, Inside, Pending}
 use Rattle.link_spec.specs.declared.receiver.Turn.{Turn}
@@ -22,63 +22,63 @@ use Rattle.link_spec.specs.declared.receiver.Turn.the-variants.{Rest, Be
 use Rattle.link_spec.specs.Address.{takes}
 use Rattle.link_spec.specs.Events.{named, happened}
 use Rattle.link_spec.specs.Turning.{kept, plain as plainTurn, partner, contentByte, inside, within, turn}
-use Rattle.link_spec.specs.Rules.{Address, first, Later, onPoint, behind, ByRule, ignored, begins, stops, address, noAddress, waits, plain, pair, noPair, longPlain, longPair}
+use Rattle.link_spec.specs.Rules.{Address, first, Later, onPoint, afterFirst, ByRule, ignored, begins, stops, address, noAddress, waits, plain, pair, noPair, longPlain, longPair}
 
 -- behind the address the addressed line is like the point line
-later-content : {line : Line} {count : ℕ} (b : ℕ) → Later line count → contentByte line count b ≡ plainTurn count b
+later-content : {station : Station} {count : ℕ} (b : ℕ) → Later station count → contentByte station count b ≡ plainTurn count b
 unfolding contentByte
 later-content b onPoint = refl
-later-content b (behind {count}) = rw (eqb·suc-zero count)
+later-content b (afterFirst {count}) = rw (eqb·suc-zero count)
 
 -- ---- a turn follows the table
 
-module _ (line : Line) (count b : ℕ) where
+module _ (station : Station) (count b : ℕ) where
   -- a byte is kept if there is room for it
   kept-rule : {phase : Phase} (x : ℕ)
-      → (count < mostContent → ByRule line count b phase (Keep x))
-      → (mostContent ≤ count → ByRule line count b phase (Tell Long))
-      → ByRule line count b phase (kept count x)
+      → (count < mostContent → ByRule station count b phase (Keep x))
+      → (mostContent ≤ count → ByRule station count b phase (Tell Long))
+      → ByRule station count b phase (kept count x)
   unfolding kept
   kept-rule {phase} x f g =
-      cond-elim (ByRule line count b phase) (ltb count mostContent) (λ t. f (ltb-true count mostContent t))
+      cond-elim (ByRule station count b phase) (ltb count mostContent) (λ t. f (ltb-true count mostContent t))
       (λ t. g (ltb-false count mostContent t))
 
-  plain-rule : Later line count → eqb b start ≡ false → eqb b stop ≡ false → ByRule line count b Inside (plainTurn count b)
+  plain-rule : Later station count → eqb b start ≡ false → eqb b stop ≡ false → ByRule station count b Inside (plainTurn count b)
   unfolding plainTurn
   plain-rule later f g =
-      cond-elim (ByRule line count b Inside) (eqb b 0xFF) (λ t. waits later (eqb-true b 0xFF t))
+      cond-elim (ByRule station count b Inside) (eqb b 0xFF) (λ t. waits later (eqb-true b 0xFF t))
       (λ h. let other : special b ≡ false = rw (f, g, h) in
       kept-rule b (plain later other) (longPlain later other))
 
-  partner-rule : eqb b start ≡ false → ByRule line count b Pending (partner count b)
+  partner-rule : eqb b start ≡ false → ByRule station count b Pending (partner count b)
   unfolding partner
   partner-rule f =
-      cond-elim (ByRule line count b Pending) (leb b 0x02)
+      cond-elim (ByRule station count b Pending) (leb b 0x02)
       (λ t. let known = leb-true b 0x02 t in
       kept-rule (0xFF - b) (pair known) (longPair known))
       (λ g. noPair (leb-false b 0x02 g) (eqb-false b start f))
 
-content-rule : (line : Line) (count b : ℕ) → eqb b start ≡ false → eqb b stop ≡ false → ByRule line count b Inside (contentByte line count b)
+content-rule : (station : Station) (count b : ℕ) → eqb b start ≡ false → eqb b stop ≡ false → ByRule station count b Inside (contentByte station count b)
 unfolding contentByte kept
 content-rule Point count b f g = plain-rule Point count b onPoint f g
-content-rule (Addressed station) zero b f g =
-    cond-elim (ByRule (Addressed station) zero b Inside) (takes station b)
+content-rule (Addressed own) zero b f g =
+    cond-elim (ByRule (Addressed own) zero b Inside) (takes own b)
     (λ t. address (first (eqb-false b start f) (eqb-false b stop g) t))
     (λ t. noAddress (first (eqb-false b start f) (eqb-false b stop g) t))
-content-rule (Addressed station) (suc count) b f g =
-    rw (later-content b (behind {station = station} {count = count})) (plain-rule (Addressed station) (suc count) b behind f g)
+content-rule (Addressed own) (suc count) b f g =
+    rw (later-content b (afterFirst {own = own} {count = count})) (plain-rule (Addressed own) (suc count) b afterFirst f g)
 
-within-rule : (line : Line) (phase : Phase) (count b : ℕ) → eqb b start ≡ false → ByRule line count b phase (within line phase count b)
+within-rule : (station : Station) (phase : Phase) (count b : ℕ) → eqb b start ≡ false → ByRule station count b phase (within station phase count b)
 unfolding within inside
-within-rule line Outside count b f = ignored (eqb-false b start f)
-within-rule line Inside count b f =
-    cond-elim (ByRule line count b Inside) (eqb b stop) (λ t. stops (eqb-true b stop t)) (content-rule line count b f)
-within-rule line Pending count b f = partner-rule line count b f
+within-rule station Outside count b f = ignored (eqb-false b start f)
+within-rule station Inside count b f =
+    cond-elim (ByRule station count b Inside) (eqb b stop) (λ t. stops (eqb-true b stop t)) (content-rule station count b f)
+within-rule station Pending count b f = partner-rule station count b f
 
-pub turn-rule : (line : Line) (phase : Phase) (count b : ℕ) → ByRule line count b phase (turn line phase count b)
+pub turn-rule : (station : Station) (phase : Phase) (count b : ℕ) → ByRule station count b phase (turn station phase count b)
 unfolding turn
-turn-rule line phase count b =
-    cond-elim (ByRule line count b phase) (eqb b start) (λ t. begins (eqb-true b start t)) (within-rule line phase count b)
+turn-rule station phase count b =
+    cond-elim (ByRule station count b phase) (eqb b start) (λ t. begins (eqb-true b start t)) (within-rule station phase count b)
 
 -- ---- and the table leaves no other
 
@@ -90,27 +90,27 @@ long-is : (count b : ℕ) → mostContent ≤ count → Tell Long ≡ kept count
 unfolding kept
 long-is count b full = rw (le-ltb count mostContent full)
 
-address-is : {line : Line} {count b : ℕ} → Address line count b true → Keep b ≡ contentByte line count b
+address-is : {station : Station} {count b : ℕ} → Address station count b true → Keep b ≡ contentByte station count b
 unfolding contentByte kept
 address-is (first f g t) = rw t
 
-noAddress-is : {line : Line} {count b : ℕ} → Address line count b false → Tell Addr ≡ contentByte line count b
+noAddress-is : {station : Station} {count b : ℕ} → Address station count b false → Tell Addr ≡ contentByte station count b
 unfolding contentByte
 noAddress-is (first f g t) = rw t
 
-neither : {line : Line} {count b : ℕ} {taken : Bool} → Address line count b taken → (eqb b start ≡ false) × (eqb b stop ≡ false)
+neither : {station : Station} {count b : ℕ} {taken : Bool} → Address station count b taken → (eqb b start ≡ false) × (eqb b stop ≡ false)
 neither {b} (first f g t) = (ne-eqb b start f, ne-eqb b stop g)
 
-plain-turn : (line : Line) (count b : ℕ) → Later line count → special b ≡ false → kept count b ≡ turn line Inside count b
+plain-turn : (station : Station) (count b : ℕ) → Later station count → special b ≡ false → kept count b ≡ turn station Inside count b
 unfolding turn within inside plainTurn
-plain-turn line count b later other =
+plain-turn station count b later other =
     rw (plain-ne b start other refl, plain-ne b stop other refl, later-content b later, plain-ne b 0xFF other refl)
 
-pair-turn : (line : Line) (count b : ℕ) → b ≤ 0x02 → kept count (0xFF - b) ≡ turn line Pending count b
+pair-turn : (station : Station) (count b : ℕ) → b ≤ 0x02 → kept count (0xFF - b) ≡ turn station Pending count b
 unfolding turn within partner
-pair-turn line count b known = rw (ne-eqb b start (omega arith), le-leb b 0x02 known)
+pair-turn station count b known = rw (ne-eqb b start (omega arith), le-leb b 0x02 known)
 
-pub rule-only : {line : Line} {count b : ℕ} {phase : Phase} {t : Turn} → ByRule line count b phase t → t ≡ turn line phase count b
+pub rule-only : {station : Station} {count b : ℕ} {phase : Phase} {t : Turn} → ByRule station count b phase t → t ≡ turn station phase count b
 unfolding turn within inside plainTurn partner
 rule-only {b} (ignored f) = rw (ne-eqb b start f)
 rule-only (begins e) = rw e
@@ -118,11 +118,11 @@ rule-only (stops e) = rw e
 rule-only (address a) = rw (neither a .0, neither a .1) (address-is a)
 rule-only (noAddress a) = rw (neither a .0, neither a .1) (noAddress-is a)
 rule-only (waits later e) = rw (e, later-content 0xFF later)
-rule-only {line} {count} {b} (plain later other room) = kept-is count b room ∙ plain-turn line count b later other
-rule-only {line} {count} {b} (pair known room) = kept-is count (0xFF - b) room ∙ pair-turn line count b known
+rule-only {station} {count} {b} (plain later other room) = kept-is count b room ∙ plain-turn station count b later other
+rule-only {station} {count} {b} (pair known room) = kept-is count (0xFF - b) room ∙ pair-turn station count b known
 rule-only {b} (noPair over f) = rw (ne-eqb b start f, lt-leb b 0x02 over)
-rule-only {line} {count} {b} (longPlain later other full) = long-is count b full ∙ plain-turn line count b later other
-rule-only {line} {count} {b} (longPair known full) = long-is count (0xFF - b) full ∙ pair-turn line count b known
+rule-only {station} {count} {b} (longPlain later other full) = long-is count b full ∙ plain-turn station count b later other
+rule-only {station} {count} {b} (longPair known full) = long-is count (0xFF - b) full ∙ pair-turn station count b known
 
 -- ---- a byte that is kept has room, and what is told is an event
 
@@ -134,10 +134,10 @@ Sound count (Keep b) = count < mostContent
 Sound count Stop = Unit {0}
 Sound count (Tell why) = happened (named why) ≡ true
 
-pub address-room : {line : Line} {count b : ℕ} → Address line count b true → count < mostContent
+pub address-room : {station : Station} {count b : ℕ} → Address station count b true → count < mostContent
 address-room (first f g t) = lit≤ tt
 
-rule-sound : {line : Line} {phase : Phase} {count b : ℕ} {t : Turn} → ByRule line count b phase t → Sound count t
+rule-sound : {station : Station} {phase : Phase} {count b : ℕ} {t : Turn} → ByRule station count b phase t → Sound count t
 rule-sound (ignored f) = tt
 rule-sound (begins e) = tt
 rule-sound (stops e) = tt
@@ -150,5 +150,5 @@ rule-sound (noPair over f) = refl
 rule-sound (longPlain later other full) = refl
 rule-sound (longPair known full) = refl
 
-pub turn-sound : (line : Line) (phase : Phase) (count b : ℕ) → Sound count (turn line phase count b)
-turn-sound line phase count b = rule-sound (turn-rule line phase count b)
+pub turn-sound : (station : Station) (phase : Phase) (count b : ℕ) → Sound count (turn station phase count b)
+turn-sound station phase count b = rule-sound (turn-rule station phase count b)

@@ -10,13 +10,13 @@ use native.Mathlib.Omega.{arith}
 use lib.ListN.{length, take}
 use lib.Seq.{length-take-le, take-take, take-suc-set}
 use Rattle.checks.specs.declared.kind.Check.{Check}
-use Rattle.link_spec.specs.declared.station.Line.{Line}
+use Rattle.link_spec.specs.declared.station.Station.{Station}
 use Rattle.link_spec.specs.declared.receiver.Phase.{Phase}
 use Rattle.link_spec.specs.declared.receiver.Phase.the-variants.{Outside, Inside, Pending}
 use Rattle.link_spec.specs.declared.receiver.Turn.{Turn}
 use Rattle.link_spec.specs.declared.receiver.Turn.the-variants.{Rest, Begin, Wait, Keep, Stop, Tell}
 use Rattle.link_spec.specs.declared.receiver.Receiver.{Receiver}
-use Rattle.link_spec.specs.Line.{checkOn}
+use Rattle.link_spec.specs.Station.{checkOn}
 use Rattle.link_spec.specs.Events.{named, verdict}
 use Rattle.link_spec.specs.Turning.{turn}
 use Rattle.link_spec.specs.Receiving.{soFar, turnAt, moved, hasEvent, outcome, outcomeAt}
@@ -39,8 +39,8 @@ seen s = view (s .phase) (soFar s)
 
 -- ---- one byte
 
-abbrev pub turns : Line → View → ℕ → Turn
-turns line v b = turn line (v .phase) (length (v .kept)) b
+abbrev pub turns : Station → View → ℕ → Turn
+turns station v b = turn station (v .phase) (length (v .kept)) b
 
 unfoldable pub next : View → Turn → View
 next v Rest = v
@@ -51,19 +51,19 @@ next v Stop = nowhere
 next v (Tell why) = nowhere
 
 -- what is noted of a turn whose byte is at this place
-unfoldable pub noted : Line → View → ℕ → Turn → List Told
-noted line v place t =
-    let o = outcome (checkOn line) (v .kept) t in
+unfoldable pub noted : Station → View → ℕ → Turn → List Told
+noted station v place t =
+    let o = outcome (checkOn station) (v .kept) t in
     note place (named (o .event)) (take (o .length) (v .kept))
 
 -- ---- the record behind it
 
-module _ {line : Line} {s : Receiver} (fit : Fit line s) where
+module _ {station : Station} {s : Receiver} (fit : Fit station s) where
   length-seen : length (seen s .kept) ≡ s .count
   length-seen = length-take-le (s .count) (s .content) (omega (arith, fit .sized, fit .within))
 
-  pub turns-seen : (b : ℕ) → turnAt s b ≡ turns line (seen s) b
-  turns-seen b = ap₂ (λ (l : Line) (n : ℕ). turn l (s .phase) n b) (fit .on) (sym length-seen)
+  pub turns-seen : (b : ℕ) → turnAt s b ≡ turns station (seen s) b
+  turns-seen b = ap₂ (λ (l : Station) (n : ℕ). turn l (s .phase) n b) (fit .on) (sym length-seen)
 
   pub seen-moved : (t : Turn) → Sound (s .count) t → seen (moved s t) ≡ next (seen s) t
   unfolding moved next
@@ -91,18 +91,18 @@ module _ {line : Line} {s : Receiver} (fit : Fit line s) where
 
   pub noted-seen : (place : ℕ) (t : Turn)
       → let o = outcomeAt s t in
-      note place (named (o .event)) (take (o .length) (moved s t .content)) ≡ noted line (seen s) place t
+      note place (named (o .event)) (take (o .length) (moved s t .content)) ≡ noted station (seen s) place t
   unfolding noted
   noted-seen place t =
-      ap (note place (named (outcomeAt s t .event))) (carried-seen (checkOn (s .line)) t)
-      ∙ ap (λ (l : Line). noted l (seen s) place t) (fit .on)
+      ap (note place (named (outcomeAt s t .event))) (carried-seen (checkOn (s .station)) t)
+      ∙ ap (λ (l : Station). noted l (seen s) place t) (fit .on)
 
 -- nothing is noted of a turn without an event
-pub quiet : (line : Line) (v : View) (place : ℕ) (t : Turn) → hasEvent t ≡ false → noted line v place t ≡ []
+pub quiet : (station : Station) (v : View) (place : ℕ) (t : Turn) → hasEvent t ≡ false → noted station v place t ≡ []
 unfolding noted outcome note
-quiet line v place Rest e = refl
-quiet line v place Begin e = refl
-quiet line v place Wait e = refl
-quiet line v place (Keep b) e = refl
-quiet line v place Stop e = absurd (true≢false e)
-quiet line v place (Tell why) e = absurd (true≢false e)
+quiet station v place Rest e = refl
+quiet station v place Begin e = refl
+quiet station v place Wait e = refl
+quiet station v place (Keep b) e = refl
+quiet station v place Stop e = absurd (true≢false e)
+quiet station v place (Tell why) e = absurd (true≢false e)

@@ -14,52 +14,52 @@ use Rattle.ground.proofs.Laws.Choice.{cond-elim}
 use Rattle.checks.specs.declared.kind.Check.{Check}
 use Rattle.checks.specs.Check.{checkLength, withCheck}
 use Rattle.wire_spec.specs.Image.{image}
-use Rattle.wire_spec.specs.Writing.{After, refusing, putting, imageWritten, frameWritten}
+use Rattle.wire_spec.specs.Writing.{After, notWritten, putting, imageWritten, frameWritten}
 use Rattle.wire_spec.proofs.Laws.Stuffing.{plain-is}
 use Rattle.wire_spec.proofs.Laws.Writing.{written-short, written-whole, written-keeps as image-keeps}
 use Rattle.wire_spec.proofs.Laws.Frame.{frame-within, frame-over}
 use Rattle.link_spec.specs.Limits.{leastContent, mostData}
 use Rattle.link_spec.specs.Address.{isNever}
 use Rattle.link_spec.specs.Frame.{pointContent, addressedContent}
-use Rattle.link_spec.specs.Writers.{written, pointWritten, addressedWritten, ByTable, tooLong, badAddress, noRoom, frame}
+use Rattle.link_spec.specs.Writers.{writtenUnless, pointWritten, addressedWritten, WriterTable, tooLong, badAddress, noRoom, frame}
 
 module _ (never : Bool) («data» content out : List ℕ) where
   -- ---- when: each row, and the frame where no row applies
 
-  pub refuses-length : mostData < length «data» → written never «data» content out ≡ refusing TooLong out
-  unfolding written
+  pub refuses-length : mostData < length «data» → writtenUnless never «data» content out ≡ notWritten TooLong out
+  unfolding writtenUnless
   refuses-length long = rw (lt-ltb mostData (length «data») long)
 
-  pub refuses-address : length «data» ≤ mostData → never ≡ true → written never «data» content out ≡ refusing BadAddress out
-  unfolding written
+  pub refuses-address : length «data» ≤ mostData → never ≡ true → writtenUnless never «data» content out ≡ notWritten BadAddress out
+  unfolding writtenUnless
   refuses-address fits bad = rw (le-ltb mostData (length «data») fits, bad)
 
-  pub goes-on : length «data» ≤ mostData → never ≡ false → written never «data» content out ≡ imageWritten content out
-  unfolding written
+  pub goes-on : length «data» ≤ mostData → never ≡ false → writtenUnless never «data» content out ≡ imageWritten content out
+  unfolding writtenUnless
   goes-on fits good = rw (le-ltb mostData (length «data») fits, good)
 
   pub refuses-room : length «data» ≤ mostData → never ≡ false → length out < length (image content)
-      → written never «data» content out ≡ refusing NoRoom out
+      → writtenUnless never «data» content out ≡ notWritten NoRoom out
   refuses-room fits good short = goes-on fits good ∙ written-short content out short
 
   pub writes : length «data» ≤ mostData → never ≡ false → length (image content) ≤ length out
-      → written never «data» content out ≡ putting content out
+      → writtenUnless never «data» content out ≡ putting content out
   writes fits good room = goes-on fits good ∙ written-whole content out room
 
   -- a refused call leaves the buffer as before
-  written-keeps : Keeps (written never «data» content out .answer .refusal) out (written never «data» content out .out)
-  unfolding written
+  written-keeps : Keeps (writtenUnless never «data» content out .tally .refusal) out (writtenUnless never «data» content out .out)
+  unfolding writtenUnless
   written-keeps =
       cond-elim P (ltb mostData (length «data»)) (λ t refused. refl)
       (λ f. cond-elim P never (λ t refused. refl) (λ g. image-keeps content out))
     where
       P : After → Type 0
-      P a = Keeps (a .answer .refusal) out (a .out)
+      P a = Keeps (a .tally .refusal) out (a .out)
 
   -- ---- and only then: of the answer that was given, the row's conditions hold
 
-  pub by-table : ByTable never «data» content out (written never «data» content out)
-  unfolding written imageWritten
+  pub by-table : WriterTable never «data» content out (writtenUnless never «data» content out)
+  unfolding writtenUnless imageWritten
   by-table =
       cond-elim P (ltb mostData (length «data»)) (λ t. tooLong (ltb-true mostData (length «data») t))
       (λ f. let fits = ltb-false mostData (length «data») f in
@@ -69,10 +69,10 @@ module _ (never : Bool) («data» content out : List ℕ) where
       (λ g. frame fits a (ltb-false (length out) (length (image content)) g))))
     where
       P : After → Type 0
-      P = ByTable never «data» content out
+      P = WriterTable never «data» content out
 
   -- so the table has one answer for each input
-  pub table-only : {w : After} → ByTable never «data» content out w → w ≡ written never «data» content out
+  pub table-only : {w : After} → WriterTable never «data» content out w → w ≡ writtenUnless never «data» content out
   table-only (tooLong long) = sym (refuses-length long)
   table-only (badAddress fits bad) = sym (refuses-address fits bad)
   table-only (noRoom fits good short) = sym (refuses-room fits good short)
@@ -81,8 +81,8 @@ module _ (never : Bool) («data» content out : List ℕ) where
 -- a frame whose head makes the least content with its check is refused just where the data is over its limit: it is what a writer answers
 -- that has no address to refuse
 pub frame-written : (check : Check) (head «data» out : List ℕ) → length head + checkLength check ≡ leastContent
-    → frameWritten check head «data» out ≡ written false «data» (withCheck check (head ++ «data»)) out
-unfolding written
+    → frameWritten check head «data» out ≡ writtenUnless false «data» (withCheck check (head ++ «data»)) out
+unfolding writtenUnless
 frame-written check head «data» out least =
     cond-elim (λ (w : After). frameWritten check head «data» out ≡ w) (ltb mostData (length «data»))
     (λ t. frame-over check head «data» out (omega (arith, ltb-true mostData (length «data») t)))
@@ -91,11 +91,11 @@ frame-written check head «data» out least =
 -- ---- the same of each writer
 
 module _ (identifier command : ℕ) («data» out : List ℕ) where
-  pub point-by-table : ByTable false «data» (pointContent identifier command «data») out (pointWritten identifier command «data» out)
+  pub point-by-table : WriterTable false «data» (pointContent identifier command «data») out (pointWritten identifier command «data» out)
   unfolding pointWritten
   point-by-table = by-table false «data» (pointContent identifier command «data») out
 
-  pub point-keeps : Keeps (pointWritten identifier command «data» out .answer .refusal) out (pointWritten identifier command «data» out .out)
+  pub point-keeps : Keeps (pointWritten identifier command «data» out .tally .refusal) out (pointWritten identifier command «data» out .out)
   unfolding pointWritten
   point-keeps = written-keeps false «data» (pointContent identifier command «data») out
 
@@ -111,12 +111,12 @@ module _ (identifier command : ℕ) («data» out : List ℕ) where
   point-writes fits room = writes false «data» (pointContent identifier command «data») out fits refl room
 
 module _ (address identifier command : ℕ) («data» out : List ℕ) where
-  pub addressed-by-table : ByTable (isNever address) «data» (addressedContent address identifier command «data») out
+  pub addressed-by-table : WriterTable (isNever address) «data» (addressedContent address identifier command «data») out
       (addressedWritten address identifier command «data» out)
   unfolding addressedWritten
   addressed-by-table = by-table (isNever address) «data» (addressedContent address identifier command «data») out
 
-  pub addressed-keeps : Keeps (addressedWritten address identifier command «data» out .answer .refusal) out
+  pub addressed-keeps : Keeps (addressedWritten address identifier command «data» out .tally .refusal) out
       (addressedWritten address identifier command «data» out .out)
   unfolding addressedWritten
   addressed-keeps = written-keeps (isNever address) «data» (addressedContent address identifier command «data») out

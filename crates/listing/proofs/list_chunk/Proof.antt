@@ -8,7 +8,7 @@ use lib.ListN.{length, drop, length-drop}
 use lib.Seq.{length-take-le}
 use Rattle.ground.proofs.Laws.Lists.{take-rest}
 use Rattle.tape_spec.specs.Limits.{mostRecords}
-use Rattle.tape_spec.specs.Taping.{told, listed}
+use Rattle.tape_spec.specs.Taping.{listedOut, listed}
 use Rattle.tape_spec.proofs.Laws.Taping.{Within, listed-within}
 use Rattle.listing.proofs.list_chunk.Statement.{statement}
 use Rattle.listing.proofs.list_chunk.Tie as tie
@@ -44,7 +44,7 @@ whole c = entry c .args .chunk .now
 
 -- by the call's statement, on all that is left of the chunk
 within : (c : tie.After-list Inv-loop μ-loop) → let l = c .before .before .before .before .loop in
-    Within (drop (l .taken) (whole c)) (l .text) (told (c .list .result) (c .list .last .1 .1 .0))
+    Within (drop (l .taken) (whole c)) (l .text) (listedOut (c .list .result) (c .list .last .1 .1 .0))
 within c =
     let l = c .before .before .before .before .loop in
     let rest = drop (l .taken) (whole c) in

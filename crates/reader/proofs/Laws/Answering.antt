@@ -34,7 +34,7 @@ pub put-answers : {r : Answer} {n : ℕ} {out′ : List ℕ} (s : Reader) (conte
     → Fills n out′ content out
     → answering r store out′ ≡ sending s Out (length (image content)) store (onto (image content) out)
 put-answers {out′} s content store out told put =
-    ap (λ (r : Answer). answering r store out′) told ∙ ap (λ (a : After). sending s Out (a .answer .count) store (a .out)) (put .0)
+    ap (λ (r : Answer). answering r store out′) told ∙ ap (λ (a : After). sending s Out (a .tally .count) store (a .out)) (put .0)
 
 -- a reply put to out, copied to the store and remembered
 module _ (s : Reader) (header antenna store out : List ℕ) (identifier code : ℕ) («data» : List ℕ) (command : Command) where
@@ -51,7 +51,7 @@ module _ (s : Reader) (header antenna store out : List ℕ) (identifier code : �
       ∙ ap (λ (qs : Parameters). sending (being qs (Last identifier code n)) Out n store′ out′) done
       ∙ ap (λ (l : List ℕ). sending (being ps′ (Last identifier code n)) Out n l out′)
       (kept ∙ ap (λ (l : List ℕ). onto l store) (puts-front content out put))
-      ∙ ap (λ (a : After). sending (being ps′ (Last identifier code (a .answer .count))) Out (a .answer .count) (onto (image content) store)
+      ∙ ap (λ (a : After). sending (being ps′ (Last identifier code (a .tally .count))) Out (a .tally .count) (onto (image content) store)
       (a .out)) (put .0)
 
 -- a frame that repeats nothing, by its acceptance: steps 4 to 6

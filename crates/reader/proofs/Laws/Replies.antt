@@ -33,20 +33,20 @@ pub reply-put : (r : Counted) (identifier command : ℕ) («data» out : List �
 reply-put r identifier command «data» out fits long says =
     let within = point-room identifier command «data» fits in
     let written = says ∙ point-writes identifier command «data» out fits (omega arith) in (
-      ap (λ (a : After). leaving (counted (a .answer .count)) (a .out)) written,
-      omega (arith, ap (λ (a : After). a .answer .count) written),
+      ap (λ (a : After). leaving (counted (a .tally .count)) (a .out)) written,
+      omega (arith, ap (λ (a : After). a .tally .count) written),
     )
 
 -- what was put stands in front
 pub puts-front : {n : ℕ} {out′ : List ℕ} (content out : List ℕ) → Fills n out′ content out → take n out′ ≡ image content
 puts-front content out (e, within) =
-    ap (λ (a : After). take (a .answer .count) (a .out)) e
+    ap (λ (a : After). take (a .tally .count) (a .out)) e
     ∙ take-append-seam (image content) _
 
 -- so much of out is there to be copied
 pub puts-within : {n : ℕ} {out′ : List ℕ} (content out : List ℕ) → Fills n out′ content out → n ≤ length out′
 puts-within content out put =
-    let n = ap (λ (a : After). a .answer .count) (put .0) in
+    let n = ap (λ (a : After). a .tally .count) (put .0) in
     let long = ap (λ (a : After). length (a .out)) (put .0) in
     omega (arith, n, long, length-append (image content) (drop (length (image content)) out))
 

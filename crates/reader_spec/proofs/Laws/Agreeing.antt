@@ -20,7 +20,7 @@ use Rattle.request_spec.specs.declared.command.Acceptance.{Acceptance}
 use Rattle.request_spec.specs.declared.command.Acceptance.the-variants.{Accepted, Refused}
 use Rattle.request_spec.specs.Limits.{headerLength}
 use Rattle.request_spec.specs.Parameters.{lengthOf, isSpeed}
-use Rattle.request_spec.specs.Acceptance.{acceptance, nackOf, Carries}
+use Rattle.request_spec.specs.Acceptance.{acceptance, nackOf, FitsCommand}
 use Rattle.request_spec.specs.Replies.{NACK, sign, dataIn, identifierOf, commandOf, dataOf, wrongCheck}
 use Rattle.request_spec.proofs.Laws.Acceptance.{accepts, carries}
 use Rattle.reader_spec.specs.declared.reader.Asking.{Asking}
@@ -166,7 +166,7 @@ module _ (alone : Bool) (s : Reader) (header antenna store out : List ℕ) (whol
     known value = record { value = value; last = last }
 
     -- steps 4 to 6
-    told-executed : (command : Command) → Carries command (dataOf content) → Agrees alone s store (known (valueOf (s .parameters)))
+    told-executed : (command : Command) → FitsCommand command (dataOf content) → Agrees alone s store (known (valueOf (s .parameters)))
         → Told alone (judgedNext (known (valueOf (s .parameters))) content header antenna (Accepted command))
         (replyImage (identifierOf content) (commandOf content) (replyTo (valueOf (s .parameters)) command header antenna)) false
         (executed s header antenna store out (identifierOf content) (commandOf content) (dataOf content) command)

@@ -2,7 +2,7 @@
 -- Assumes nothing.
 use mathlib.Core.Path.{refl}
 use Rattle.ground.specs.Each.{Each, none, _and_}
-use Rattle.request_spec.specs.Parameters.{parameterWith, takes}
+use Rattle.request_spec.specs.Parameters.{parameterWith, isValueOf}
 use Rattle.request_spec.specs.Acceptance.{acceptance}
 use Rattle.reader_spec.specs.Replies.{replyTo}
 use Rattle.reader_spec.specs.Answering.{poweredOn}
@@ -10,7 +10,7 @@ use Rattle.reader_spec.specs.Sending.{sent}
 use Rattle.reader_spec.specs.Examples.{Holds, examples}
 
 pub each-holds : Each Holds examples
-unfolding parameterWith takes acceptance replyTo poweredOn sent
+unfolding parameterWith isValueOf acceptance replyTo poweredOn sent
 each-holds =
     refl and refl and refl and refl and refl and refl and refl and refl and refl and refl and refl and refl
     and refl and refl and refl and refl and refl and refl and refl and refl and refl and refl and refl

@@ -16,7 +16,7 @@ use Rattle.request_spec.specs.declared.command.Command.the-variants as Command
 use Rattle.request_spec.specs.Limits.{mostAntenna, headerLength}
 use Rattle.request_spec.specs.Parameters.{parameterCode, lengthOf, isSpeed}
 use Rattle.request_spec.specs.Cards.{isCode}
-use Rattle.request_spec.specs.Acceptance.{Carries}
+use Rattle.request_spec.specs.Acceptance.{FitsCommand}
 use Rattle.request_spec.specs.Replies.{Reply, dataIn}
 use Rattle.request_spec.proofs.Laws.Parameters.{takes-length, takes-within, value-length, lengthOf-most, same-code}
 use Rattle.reader_spec.specs.declared.reader.Parameters.{Parameters}
@@ -26,7 +26,7 @@ use Rattle.reader_spec.specs.Sessions.{valuesAfter}
 use Rattle.reader_spec.proofs.Laws.Parameters.{value-written}
 
 module _ (ps : Parameters) («data» : List ℕ) where
-  pub done-values : (command : Command) → Carries command «data»
+  pub done-values : (command : Command) → FitsCommand command «data»
       → valueOf (doneTo ps command «data») ≡ valuesAfter (valueOf ps) command «data»
   done-values Command.Header carried = refl
   done-values (Command.Write p) carried =
@@ -35,7 +35,7 @@ module _ (ps : Parameters) («data» : List ℕ) where
   done-values (Command.Read p) carried = refl
   done-values (Command.Card card) carried = refl
 
-  pub done-speed : (command : Command) → Carries command «data» → isSpeed (ps .speed) ≡ true
+  pub done-speed : (command : Command) → FitsCommand command «data» → isSpeed (ps .speed) ≡ true
       → isSpeed (doneTo ps command «data» .speed) ≡ true
   done-speed Command.Header carried good = good
   done-speed (Command.Write Speed) carried good = takes-within Speed (drop 1 «data») (carried .1)
@@ -45,7 +45,7 @@ module _ (ps : Parameters) («data» : List ℕ) where
   done-speed (Command.Card card) carried good = good
 
 module _ (value : Parameter → List ℕ) (sized : (p : Parameter) → length (value p) ≡ lengthOf p) where
-  pub done-sized : («data» : List ℕ) (command : Command) → Carries command «data» → (q : Parameter)
+  pub done-sized : («data» : List ℕ) (command : Command) → FitsCommand command «data» → (q : Parameter)
       → length (valuesAfter value command «data» q) ≡ lengthOf q
   done-sized «data» Command.Header carried q = sized q
   done-sized «data» (Command.Write p) carried q =

@@ -22,44 +22,44 @@ use Rattle.request_spec.specs.declared.command.Command.the-variants.{Hea
 use Rattle.request_spec.specs.declared.command.Acceptance.{Acceptance}
 use Rattle.request_spec.specs.declared.command.Acceptance.the-variants.{Accepted, Refused}
 use Rattle.request_spec.specs.declared.command.Fault.the-variants.{UnknownCode, BadData}
-use Rattle.request_spec.specs.Parameters.{parameterCode, parameterWith, takes}
-use Rattle.request_spec.specs.Acceptance.{bare, writingTo, writing, readingFrom, reading, isKnown, acceptance, commandCode, Judgement, byCode, byCodes, byNumber, judgement, Carries, Accepts, header, write, read, marin, hid, motorola}
+use Rattle.request_spec.specs.Parameters.{parameterCode, parameterWith, isValueOf}
+use Rattle.request_spec.specs.Acceptance.{bareAccepted, writeAcceptedTo, writeAccepted, readAcceptedFrom, readAccepted, isKnown, acceptance, commandCode, Judgement, byCode, byCodes, byNumber, judgement, FitsCommand, Accepts, header, write, read, marin, hid, motorola}
 use Rattle.request_spec.proofs.Laws.Parameters.{takes-length, lengthOf-most}
 
 -- ---- data as the code reads it: by its length and its places
 
-pub bare-none : (command : Command) («data» : List ℕ) → length «data» ≡ 0 → Accepted command ≡ bare command «data»
+pub bare-none : (command : Command) («data» : List ℕ) → length «data» ≡ 0 → Accepted command ≡ bareAccepted command «data»
 bare-none command [] none = refl
 bare-none command (b ∷ more) none = absurd (omega arith)
 
-pub bare-some : (command : Command) («data» : List ℕ) → (length «data» ≡ 0 → ⊥) → Refused BadData ≡ bare command «data»
+pub bare-some : (command : Command) («data» : List ℕ) → (length «data» ≡ 0 → ⊥) → Refused BadData ≡ bareAccepted command «data»
 bare-some command [] some = absurd (some refl)
 bare-some command (b ∷ more) some = refl
 
-pub writing-none : («data» : List ℕ) → length «data» ≡ 0 → Refused BadData ≡ writing «data»
+pub writing-none : («data» : List ℕ) → length «data» ≡ 0 → Refused BadData ≡ writeAccepted «data»
 writing-none [] none = refl
 writing-none (b ∷ more) none = absurd (omega arith)
 
 pub writing-some : {coded : Coded} («data» : List ℕ) → (length «data» ≡ 0 → ⊥) → parameterWith (getD «data» 0 0) ≡ coded
-    → writingTo coded (drop 1 «data») ≡ writing «data»
+    → writeAcceptedTo coded (drop 1 «data») ≡ writeAccepted «data»
 writing-some [] some known = absurd (some refl)
-writing-some (code ∷ value) some known = ap (λ (k : Coded). writingTo k value) (sym known)
+writing-some (code ∷ value) some known = ap (λ (k : Coded). writeAcceptedTo k value) (sym known)
 
 pub writing-value : {p : Parameter} {t : Bool} («data» : List ℕ) → (length «data» ≡ 0 → ⊥) → parameterWith (getD «data» 0 0) ≡ Known p
-    → takes p (drop 1 «data») ≡ t
-    → cond t (Accepted (Write p)) (Refused BadData) ≡ writing «data»
+    → isValueOf p (drop 1 «data») ≡ t
+    → cond t (Accepted (Write p)) (Refused BadData) ≡ writeAccepted «data»
 writing-value {p} «data» some known taken =
     ap (λ (t : Bool). cond t (Accepted (Write p)) (Refused BadData)) (sym taken) ∙ writing-some «data» some known
 
-pub reading-other : («data» : List ℕ) → (length «data» ≡ 1 → ⊥) → Refused BadData ≡ reading «data»
+pub reading-other : («data» : List ℕ) → (length «data» ≡ 1 → ⊥) → Refused BadData ≡ readAccepted «data»
 reading-other [] other = refl
 reading-other (code ∷ []) other = absurd (other refl)
 reading-other (code ∷ b ∷ more) other = refl
 
 pub reading-one : {coded : Coded} («data» : List ℕ) → length «data» ≡ 1 → parameterWith (getD «data» 0 0) ≡ coded
-    → readingFrom coded ≡ reading «data»
+    → readAcceptedFrom coded ≡ readAccepted «data»
 reading-one [] one known = absurd (omega arith)
-reading-one (code ∷ []) one known = ap readingFrom (sym known)
+reading-one (code ∷ []) one known = ap readAcceptedFrom (sym known)
 reading-one (code ∷ b ∷ more) one known = absurd (omega arith)
 
 -- ---- what is accepted is a row of the table
@@ -87,26 +87,26 @@ parameter-with Speed = refl
 parameter-with Settings = refl
 parameter-with Cell = refl
 
-bare-row : (code : ℕ) (command : Command) («data» : List ℕ) → Accepts code [] command → Row code «data» (bare command «data»)
+bare-row : (code : ℕ) (command : Command) («data» : List ℕ) → Accepts code [] command → Row code «data» (bareAccepted command «data»)
 bare-row code command [] row = row
 bare-row code command (b ∷ more) row = tt
 
-writing-row : («data» : List ℕ) → Row 0x01 «data» (writing «data»)
+writing-row : («data» : List ℕ) → Row 0x01 «data» (writeAccepted «data»)
 writing-row [] = tt
 writing-row (code ∷ value) = of (parameterWith code) (parameter-named code)
   where
-    of : (k : Coded) → Named code k → Row 0x01 (code ∷ value) (writingTo k value)
+    of : (k : Coded) → Named code k → Row 0x01 (code ∷ value) (writeAcceptedTo k value)
     of coded.Unknown named = tt
     of (Known p) named =
-        cond-elim (Row 0x01 (code ∷ value)) (takes p value)
+        cond-elim (Row 0x01 (code ∷ value)) (isValueOf p value)
         (λ taken. subst⁻¹ (λ (k : ℕ). Accepts 0x01 (k ∷ value) (Write p)) named (write p value taken)) (λ _. tt)
 
-reading-row : («data» : List ℕ) → Row 0x02 «data» (reading «data»)
+reading-row : («data» : List ℕ) → Row 0x02 «data» (readAccepted «data»)
 reading-row [] = tt
 reading-row (code ∷ b ∷ more) = tt
 reading-row (code ∷ []) = of (parameterWith code) (parameter-named code)
   where
-    of : (k : Coded) → Named code k → Row 0x02 (code ∷ []) (readingFrom k)
+    of : (k : Coded) → Named code k → Row 0x02 (code ∷ []) (readAcceptedFrom k)
     of coded.Unknown named = tt
     of (Known p) named = subst⁻¹ (λ (k : ℕ). Accepts 0x02 (k ∷ []) (Read p)) named (read p)
 
@@ -117,12 +117,12 @@ module _ (code : ℕ) («data» : List ℕ) where
   by-row : Row code «data» (acceptance code «data»)
   unfolding acceptance
   by-row =
-      cond-elim P (eqb code 0x00) (at-code 0x00 (bare Header «data») (bare-row 0x00 Header «data» header))
-      (λ a. cond-elim P (eqb code 0x01) (at-code 0x01 (writing «data») (writing-row «data»))
-      (λ b. cond-elim P (eqb code 0x02) (at-code 0x02 (reading «data») (reading-row «data»))
-      (λ c. cond-elim P (eqb code 0x10) (at-code 0x10 (bare (Card Marin) «data») (bare-row 0x10 (Card Marin) «data» marin))
-      (λ d. cond-elim P (eqb code 0x14) (at-code 0x14 (bare (Card Hid) «data») (bare-row 0x14 (Card Hid) «data» hid))
-      (λ e. cond-elim P (eqb code 0x18) (at-code 0x18 (bare (Card Motorola) «data») (bare-row 0x18 (Card Motorola) «data» motorola))
+      cond-elim P (eqb code 0x00) (at-code 0x00 (bareAccepted Header «data») (bare-row 0x00 Header «data» header))
+      (λ a. cond-elim P (eqb code 0x01) (at-code 0x01 (writeAccepted «data») (writing-row «data»))
+      (λ b. cond-elim P (eqb code 0x02) (at-code 0x02 (readAccepted «data») (reading-row «data»))
+      (λ c. cond-elim P (eqb code 0x10) (at-code 0x10 (bareAccepted (Card Marin) «data») (bare-row 0x10 (Card Marin) «data» marin))
+      (λ d. cond-elim P (eqb code 0x14) (at-code 0x14 (bareAccepted (Card Hid) «data») (bare-row 0x14 (Card Hid) «data» hid))
+      (λ e. cond-elim P (eqb code 0x18) (at-code 0x18 (bareAccepted (Card Motorola) «data») (bare-row 0x18 (Card Motorola) «data» motorola))
       (λ f. rw (a, b, c, d, e) f))))))
     where
       P : Acceptance → Type 0
@@ -164,7 +164,7 @@ accepted-short marin = omega arith
 accepted-short hid = omega arith
 accepted-short motorola = omega arith
 
-pub carries : {code : ℕ} {«data» : List ℕ} {command : Command} → Accepts code «data» command → Carries command «data»
+pub carries : {code : ℕ} {«data» : List ℕ} {command : Command} → Accepts code «data» command → FitsCommand command «data»
 carries header = tt
 carries (write p value taken) = (omega arith, taken)
 carries (read p) = tt

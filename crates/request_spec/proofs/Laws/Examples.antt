@@ -2,7 +2,7 @@
 -- Assumes nothing.
 use mathlib.Core.Path.{refl}
 use Rattle.ground.specs.Each.{Each, none, _and_}
-use Rattle.request_spec.specs.Parameters.{parameterWith, takes}
+use Rattle.request_spec.specs.Parameters.{parameterWith, isValueOf}
 use Rattle.request_spec.specs.Cards.{highFirst}
 use Rattle.request_spec.specs.Acceptance.{acceptance}
 use Rattle.request_spec.specs.Header.{header}
@@ -11,7 +11,7 @@ use Rattle.request_spec.specs.Reading.{dataRead, reasonRead, signRead, r
 use Rattle.request_spec.specs.Examples.{Holds, examples}
 
 pub each-holds : Each Holds examples
-unfolding parameterWith takes highFirst acceptance header requestWritten dataRead reasonRead signRead readAs replyRead
+unfolding parameterWith isValueOf highFirst acceptance header requestWritten dataRead reasonRead signRead readAs replyRead
 each-holds =
     refl and refl and refl and refl and refl and refl and refl and refl and refl and refl and refl and refl and refl
     and refl and refl and refl and refl and refl and refl and refl and refl and refl and refl and refl and refl

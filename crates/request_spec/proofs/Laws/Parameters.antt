@@ -10,7 +10,7 @@ use lib.ListN.{length}
 use borrow.Author.Tests.{eqb-true, eq-eqb, ne-eqb}
 use Rattle.request_spec.specs.declared.parameter.Parameter.{Parameter}
 use Rattle.request_spec.specs.declared.parameter.Parameter.the-variants.{Speed, Settings, Cell}
-use Rattle.request_spec.specs.Parameters.{parameterCode, lengthOf, within, takes}
+use Rattle.request_spec.specs.Parameters.{parameterCode, lengthOf, within, isValueOf}
 
 -- a value has 1 to 8 bytes
 pub lengthOf-least : (p : Parameter) → 0 < lengthOf p
@@ -24,25 +24,25 @@ lengthOf-most Settings = omega arith
 lengthOf-most Cell = omega arith
 
 -- a value that a parameter takes has its length, and for the speed is 3..10
-pub takes-length : (p : Parameter) (value : List ℕ) → takes p value ≡ true → length value ≡ lengthOf p
-unfolding takes
+pub takes-length : (p : Parameter) (value : List ℕ) → isValueOf p value ≡ true → length value ≡ lengthOf p
+unfolding isValueOf
 takes-length p value taken =
     eqb-true (length value) (lengthOf p) (and-eq-true-iff (eqb (length value) (lengthOf p)) (within p value) .0 taken .0)
 
-pub takes-within : (p : Parameter) (value : List ℕ) → takes p value ≡ true → within p value ≡ true
-unfolding takes
+pub takes-within : (p : Parameter) (value : List ℕ) → isValueOf p value ≡ true → within p value ≡ true
+unfolding isValueOf
 takes-within p value taken = and-eq-true-iff (eqb (length value) (lengthOf p)) (within p value) .0 taken .1
 
-pub value-length : {p q : Parameter} (value : List ℕ) → p ≡ q → takes p value ≡ true → length value ≡ lengthOf q
+pub value-length : {p q : Parameter} (value : List ℕ) → p ≡ q → isValueOf p value ≡ true → length value ≡ lengthOf q
 value-length {p} value same taken = takes-length p value taken ∙ ap lengthOf same
 
 -- the length is tried first
-pub takes-none : {n : ℕ} (p : Parameter) (value : List ℕ) → n ≡ lengthOf p → (length value ≡ n → ⊥) → false ≡ takes p value
-unfolding takes
+pub takes-none : {n : ℕ} (p : Parameter) (value : List ℕ) → n ≡ lengthOf p → (length value ≡ n → ⊥) → false ≡ isValueOf p value
+unfolding isValueOf
 takes-none p value long other = rw (ne-eqb (length value) (lengthOf p) (λ e. other (e ∙ sym long)))
 
-pub takes-some : {n : ℕ} {p q : Parameter} (value : List ℕ) → p ≡ q → n ≡ lengthOf p → length value ≡ n → within q value ≡ takes p value
-unfolding takes
+pub takes-some : {n : ℕ} {p q : Parameter} (value : List ℕ) → p ≡ q → n ≡ lengthOf p → length value ≡ n → within q value ≡ isValueOf p value
+unfolding isValueOf
 takes-some {p} value same long whole =
     ap (λ (r : Parameter). within r value) (sym same) ∙ rw (eq-eqb (length value) (lengthOf p) (whole ∙ long))
 

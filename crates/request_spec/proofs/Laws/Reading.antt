@@ -15,16 +15,16 @@ use Rattle.request_spec.specs.declared.command.Acceptance.{Acceptance}
 use Rattle.request_spec.specs.declared.command.Acceptance.the-variants.{Accepted, Refused}
 use Rattle.request_spec.specs.Acceptance.{acceptance, isAccepted}
 use Rattle.request_spec.specs.Replies.{ACK, NACK, DATA, sign, ackByte, identifierOf, commandOf, dataOf, frontOf}
-use Rattle.request_spec.specs.Reading.{Outcome, refusing, accepting, isDue, wrongId, isSign, wrongCommand, signRead, dataRead, readAs, readBy, replyRead, Heeded, Signed, reason, isWrite, isNack, reasonRead, ByTable, request, identity, otherCommand, signLength, dataLength, ackDue, noReason, ack, nack, bytes}
+use Rattle.request_spec.specs.Reading.{Understood, notRead, hasRead, isDue, wrongId, isSign, wrongCommand, signRead, dataRead, readAs, readBy, replyRead, Heeded, Signed, reason, isWrite, isNack, reasonRead, MasterTable, request, identity, otherCommand, signLength, dataLength, ackDue, noReason, ack, nack, bytes}
 
 module _ (identifier code : ℕ) (reply : List ℕ) (asks : Command) where
   -- row 6
-  pub refuses-empty : length reply ≡ 0 → readAs identifier code reply asks ≡ refusing WrongId
+  pub refuses-empty : length reply ≡ 0 → readAs identifier code reply asks ≡ notRead WrongId
   unfolding readAs
   refuses-empty none = simp none
 
   pub refuses-identifier : (length reply ≡ 0 → ⊥) → (identifierOf reply ≡ identifier → ⊥)
-      → readAs identifier code reply asks ≡ refusing WrongId
+      → readAs identifier code reply asks ≡ notRead WrongId
   unfolding readAs
   refuses-identifier some other = rw (ne-eqb (length reply) 0 some, ne-eqb (identifierOf reply) identifier other)
 
@@ -33,7 +33,7 @@ module _ (identifier code : ℕ) (reply : List ℕ) (asks : Command) where
     id-own = rw (ne-eqb (length reply) 0 some, eq-eqb (identifierOf reply) identifier own)
 
     -- row 7
-    pub refuses-absent : length reply ≡ 1 → readAs identifier code reply asks ≡ refusing WrongCommand
+    pub refuses-absent : length reply ≡ 1 → readAs identifier code reply asks ≡ notRead WrongCommand
     unfolding readAs
     refuses-absent one = rw (id-own, eq-eqb (length reply) 1 one)
 
@@ -49,11 +49,11 @@ module _ (identifier code : ℕ) (reply : List ℕ) (asks : Command) where
         no-sign : isSign reply ≡ false
         no-sign = ne-eqb (commandOf reply) sign plain
 
-        pub refuses-command : (commandOf reply ≡ code → ⊥) → readAs identifier code reply asks ≡ refusing WrongCommand
+        pub refuses-command : (commandOf reply ≡ code → ⊥) → readAs identifier code reply asks ≡ notRead WrongCommand
         unfolding readAs
         refuses-command other = rw (id-own, command-there, no-sign, ne-eqb (commandOf reply) code other)
 
-        pub refuses-echo : commandOf reply ≡ code → code ≡ 0x01 → readAs identifier code reply asks ≡ refusing WrongCommand
+        pub refuses-echo : commandOf reply ≡ code → code ≡ 0x01 → readAs identifier code reply asks ≡ notRead WrongCommand
         unfolding readAs
         refuses-echo same write = rw (id-own, command-there, no-sign, eq-eqb (commandOf reply) code same, eq-eqb code 0x01 write)
 
@@ -80,7 +80,7 @@ module _ (identifier code : ℕ) («data» : List ℕ) (command : Command) (aske
   reads-as reply = rw asked
 
   -- a NACK is read as its number wherever the request was acceptable and the identifier is its own
-  pub reads-nack : (n : ℕ) → 1 ≤ n → n ≤ 6 → replyRead identifier code «data» (frontOf identifier code (NACK n)) ≡ accepting (NACK n)
+  pub reads-nack : (n : ℕ) → 1 ≤ n → n ≤ 6 → replyRead identifier code «data» (frontOf identifier code (NACK n)) ≡ hasRead (NACK n)
   unfolding signRead reasonRead
   reads-nack n least most =
       reads-as (frontOf identifier code (NACK n))
@@ -88,13 +88,13 @@ module _ (identifier code : ℕ) («data» : List ℕ) (command : Command) (aske
       ∙ rw (ne-eqb n ackByte (λ e. absurd (omega (arith, e))), le-leb 1 n least, le-leb n 6 most)
 
   -- an ACK as one where a write was asked for
-  pub reads-ack : isWrite command ≡ true → replyRead identifier code «data» (frontOf identifier code ACK) ≡ accepting ACK
+  pub reads-ack : isWrite command ≡ true → replyRead identifier code «data» (frontOf identifier code ACK) ≡ hasRead ACK
   unfolding signRead reasonRead
   reads-ack write = reads-as (frontOf identifier code ACK) ∙ sign-read identifier code (ackByte ∷ []) command ∙ rw write
 
   -- data of a length that is due as that data
   pub reads-due : (due : List ℕ) → eqb code sign ≡ false → eqb code 0x01 ≡ false → isDue command (length due) ≡ true
-      → replyRead identifier code «data» (frontOf identifier code (DATA due)) ≡ accepting (DATA due)
+      → replyRead identifier code «data» (frontOf identifier code (DATA due)) ≡ hasRead (DATA due)
   unfolding dataRead
   reads-due due plain other sized =
       reads-as (frontOf identifier code (DATA due)) ∙ data-read identifier code due command plain other ∙ rw sized
@@ -102,12 +102,12 @@ module _ (identifier code : ℕ) («data» : List ℕ) (command : Command) (aske
 -- ---- the rows: only then, and when
 
 module _ (identifier code : ℕ) («data» reply : List ℕ) where
-  pub by-table : ByTable identifier code «data» reply (replyRead identifier code «data» reply)
+  pub by-table : MasterTable identifier code «data» reply (replyRead identifier code «data» reply)
   unfolding replyRead readAs signRead reasonRead dataRead
   by-table = of (acceptance code «data») refl
     where
-      P : Outcome → Type 0
-      P = ByTable identifier code «data» reply
+      P : Understood → Type 0
+      P = MasterTable identifier code «data» reply
 
       of : (k : Acceptance) → acceptance code «data» ≡ k → P (readBy identifier code reply k)
       of (Refused fault) asked = request (ap isAccepted asked)
@@ -123,11 +123,11 @@ module _ (identifier code : ℕ) («data» reply : List ℕ) where
           (signLength heeded mark))
           (λ plain. cond-elim P (isDue c (length (dataOf reply))) (bytes heeded plain) (dataLength heeded plain))))
 
-  pub table-only : {o : Outcome} → ByTable identifier code «data» reply o → o ≡ replyRead identifier code «data» reply
+  pub table-only : {o : Understood} → MasterTable identifier code «data» reply o → o ≡ replyRead identifier code «data» reply
   unfolding replyRead readAs signRead reasonRead dataRead
   table-only (request bad) = of (acceptance code «data») bad
     where
-      of : (k : Acceptance) → isAccepted k ≡ false → refusing BadRequest ≡ readBy identifier code reply k
+      of : (k : Acceptance) → isAccepted k ≡ false → notRead BadRequest ≡ readBy identifier code reply k
       of (Refused fault) none = refl
       of (Accepted c) none = absurd (true≢false none)
   table-only (identity asked other) = rw (asked, other)

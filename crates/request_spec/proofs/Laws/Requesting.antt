@@ -9,14 +9,14 @@ use native.Mathlib.Omega.{arith}
 use lib.ListN.{length, take}
 use Rattle.ground.specs.declared.refusal.Refusal.the-variants.{BadRequest}
 use Rattle.ground.specs.declared.refusal.Counted.{Counted}
-use Rattle.ground.specs.Refusals.{answered, Keeps}
+use Rattle.ground.specs.Refusals.{tally, Keeps}
 use Rattle.ground.proofs.Laws.Choice.{cond-elim}
-use Rattle.wire_spec.specs.Writing.{After, after, refusing}
+use Rattle.wire_spec.specs.Writing.{After, after, notWritten}
 use Rattle.wire_spec.proofs.Laws.Writing.{written-keeps}
-use Rattle.link_spec.specs.declared.station.Line.the-variants.{Point}
+use Rattle.link_spec.specs.declared.station.Station.the-variants.{Point}
 use Rattle.link_spec.specs.declared.receiver.Receiver.{Receiver}
 use Rattle.link_spec.specs.Frame.{pointContent}
-use Rattle.link_spec.specs.Writers.{pointWritten, ByTable, tooLong, badAddress, noRoom, frame}
+use Rattle.link_spec.specs.Writers.{pointWritten, WriterTable, tooLong, badAddress, noRoom, frame}
 use Rattle.link_spec.specs.Events.{FRAME}
 use Rattle.link_spec.specs.Hearing.{Told, toldAt, IsFresh, Hearing}
 use Rattle.link_spec.proofs.Laws.Writers.{point-goes-on, point-by-table}
@@ -34,7 +34,7 @@ either (Refused fault) = inl refl
 either (Accepted command) = inr (command, refl)
 
 module _ (identifier code : ℕ) («data» out : List ℕ) where
-  pub request-refused : isAccepted (acceptance code «data») ≡ false → requestWritten identifier code «data» out ≡ refusing BadRequest out
+  pub request-refused : isAccepted (acceptance code «data») ≡ false → requestWritten identifier code «data» out ≡ notWritten BadRequest out
   unfolding requestWritten
   request-refused none = rw none
 
@@ -44,27 +44,27 @@ module _ (identifier code : ℕ) («data» out : List ℕ) where
   request-written asked = rw asked (point-goes-on identifier code «data» out (accepted-short (accepts code «data» asked)))
 
   -- a refused call leaves the buffer as before
-  pub request-keeps : Keeps (requestWritten identifier code «data» out .answer .refusal) out (requestWritten identifier code «data» out .out)
+  pub request-keeps : Keeps (requestWritten identifier code «data» out .tally .refusal) out (requestWritten identifier code «data» out .out)
   unfolding requestWritten
   request-keeps =
-      cond-elim (λ (a : After). Keeps (a .answer .refusal) out (a .out)) (isAccepted (acceptance code «data»))
+      cond-elim (λ (a : After). Keeps (a .tally .refusal) out (a .out)) (isAccepted (acceptance code «data»))
       (λ asked. written-keeps (pointContent identifier code «data») out) (λ none refused. refl)
 
   -- where the writer did not refuse, there is a command
-  pub written-asks : requestWritten identifier code «data» out .answer .refusal ≡ 0
+  pub written-asks : requestWritten identifier code «data» out .tally .refusal ≡ 0
       → (command : Command) × (acceptance code «data» ≡ Accepted command)
   written-asks done = of (either (acceptance code «data»))
     where
       of : (isAccepted (acceptance code «data») ≡ false) ⊎ ((command : Command) × (acceptance code «data» ≡ Accepted command))
           → (command : Command) × (acceptance code «data» ≡ Accepted command)
-      of (inl bad) = absurd (omega (arith, sym (ap (λ (a : After). a .answer .refusal) (request-refused bad)) ∙ done))
+      of (inl bad) = absurd (omega (arith, sym (ap (λ (a : After). a .tally .refusal) (request-refused bad)) ∙ done))
       of (inr asks) = asks
 
   -- where it refused with 5, there is none
-  pub refused-asks : requestWritten identifier code «data» out .answer .refusal ≡ 5 → isAccepted (acceptance code «data») ≡ false
+  pub refused-asks : requestWritten identifier code «data» out .tally .refusal ≡ 5 → isAccepted (acceptance code «data») ≡ false
   refused-asks bad = of (either (acceptance code «data»))
     where
-      no-row : {w : After} → ByTable false «data» (pointContent identifier code «data») out w → w .answer .refusal ≡ 5 → ⊥
+      no-row : {w : After} → WriterTable false «data» (pointContent identifier code «data») out w → w .tally .refusal ≡ 5 → ⊥
       no-row (tooLong long) five = omega arith
       no-row (badAddress fits never) five = omega arith
       no-row (noRoom fits good short) five = omega arith
@@ -75,15 +75,15 @@ module _ (identifier code : ℕ) («data» out : List ℕ) where
       of (inl none) = none
       of (inr (command, asked)) =
           absurd (no-row (point-by-table identifier code «data» out)
-          (ap (λ (a : After). a .answer .refusal) (request-written asked) ∙ bad))
+          (ap (λ (a : After). a .tally .refusal) (request-written asked) ∙ bad))
 
 -- what the typed writer wrote, put anywhere into any stream, is heard whole
 pub request-heard : (r : Counted) (identifier code : ℕ) («data» out out′ before rest : List ℕ) {s : Receiver} {all : List Told}
     → after r out′ ≡ requestWritten identifier code «data» out
-    → answered r .refusal ≡ 0
+    → tally r .refusal ≡ 0
     → IsFresh Point s
     → Hearing (before ++ (take (r .count) out′ ++ rest)) s 0 all
     → List·Memᴰ (toldAt (length before + r .count) FRAME (identifier ∷ code ∷ «data»)) all
 request-heard r identifier code «data» out out′ before rest says done fr hearing =
-    let asked = written-asks identifier code «data» out (sym (ap (λ (a : After). a .answer .refusal) says) ∙ done) .1 in
+    let asked = written-asks identifier code «data» out (sym (ap (λ (a : After). a .tally .refusal) says) ∙ done) .1 in
     point-listed r identifier code «data» out out′ before rest (says ∙ sym (request-written identifier code «data» out asked)) done fr hearing

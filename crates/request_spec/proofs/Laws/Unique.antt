@@ -12,7 +12,7 @@ use Rattle.request_spec.specs.declared.reply.Meaning.{Meaning}
 use Rattle.request_spec.specs.declared.reply.Meaning.the-variants.{None, Ack, Nack, Data}
 use Rattle.request_spec.specs.declared.reply.Reading.{Reading}
 use Rattle.request_spec.specs.Replies.{Reply, ACK, NACK, DATA}
-use Rattle.request_spec.specs.Reading.{meant, Outcome, telling}
+use Rattle.request_spec.specs.Reading.{asReply, Understood, understood}
 
 -- what a reply with this data means is one case
 abbrev caseOf : Option Reply → Meaning
@@ -21,17 +21,17 @@ caseOf (some ACK) = Ack
 caseOf (some (NACK n)) = Nack n
 caseOf (some (DATA bytes)) = Data
 
-case-meant : («data» : List ℕ) (m : Meaning) → caseOf (meant «data» m) ≡ m
+case-meant : («data» : List ℕ) (m : Meaning) → caseOf (asReply «data» m) ≡ m
 case-meant «data» None = refl
 case-meant «data» Ack = refl
 case-meant «data» (Nack n) = refl
 case-meant «data» Data = refl
 
 -- of the master's reading
-pub same-reading : («data» : List ℕ) {r s : Reading} {t : Outcome} → telling «data» r ≡ t → telling «data» s ≡ t → r ≡ s
+pub same-reading : («data» : List ℕ) {r s : Reading} {t : Understood} → understood «data» r ≡ t → understood «data» s ≡ t → r ≡ s
 same-reading «data» {r} {s} p q =
-    let e : telling «data» r ≡ telling «data» s = same p q in
-    let why = number-injective (r .refusal) (s .refusal) (ap (λ (o : Outcome). o .refusal) e) in
-    let apart = LeftInverse·injective caseOf (meant «data») (case-meant «data») in
-    let meaning = apart (r .meaning) (s .meaning) (ap (λ (o : Outcome). o .meaning) e) in
+    let e : understood «data» r ≡ understood «data» s = same p q in
+    let why = number-injective (r .refusal) (s .refusal) (ap (λ (o : Understood). o .refusal) e) in
+    let apart = LeftInverse·injective caseOf (asReply «data») (case-meant «data») in
+    let meaning = apart (r .meaning) (s .meaning) (ap (λ (o : Understood). o .meaning) e) in
     λ i. record { refusal = why i; meaning = meaning i }

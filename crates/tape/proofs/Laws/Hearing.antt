@@ -12,12 +12,12 @@ use Rattle.ground.specs.declared.laying.Placed.{Placed}
 use Rattle.ground.specs.Laying.{laid, Ended, ended, placed}
 use Rattle.ground.proofs.Laws.Laying.{length-laid, placed-nil, placed-more}
 use Rattle.link_spec.specs.declared.receiver.Receiver.{Receiver}
-use Rattle.link_spec.specs.Receiving.{Said, badState, received}
+use Rattle.link_spec.specs.Receiving.{Said, badReceiver, received}
 use Rattle.link_spec.proofs.Laws.Receiving.{received-takes, stays-good}
-use Rattle.tape_spec.specs.declared.tape.Side.{Side}
+use Rattle.tape_spec.specs.declared.tape.Line.{Line}
 use Rattle.tape_spec.specs.Limits.{leastRoom, mostRecords}
-use Rattle.tape_spec.proofs.Laws.Taping.{brought-within}
-use Rattle.tape.specs.Running.{Run, resting, running, Left, leaving}
+use Rattle.tape_spec.proofs.Laws.Taping.{heard-row-within}
+use Rattle.tape.specs.Running.{Run, resting, running, Left, runLeft}
 use Rattle.tape.proofs.Laws.Running.{callText, Hears, running-full, running-piece}
 
 -- a result with where its lines end and what they left
@@ -28,30 +28,30 @@ leftBy s count e = record { receiver = s; count = count; end = e .end; out = e .
 abbrev pub leavingBehind : ℕ → Run → List ℕ → ℕ → Left
 leavingBehind count w out end = leftBy (w .receiver) (count + w .count) (placed (w .text) out end)
 
-pub none-before : (w : Run) (out : List ℕ) (end : ℕ) → leavingBehind 0 w out end ≡ leaving w out end
+pub none-before : (w : Run) (out : List ℕ) (end : ℕ) → leavingBehind 0 w out end ≡ runLeft w out end
 none-before w out end = ap (λ (k : ℕ). leftBy (w .receiver) k (placed (w .text) out end)) (zero-add (w .count))
 
-module _ (side : Side) (records : ℕ) (bodies : List ℕ) (all : Left) where
+module _ (line : Line) (records : ℕ) (bodies : List ℕ) (all : Left) where
   -- so many bodies were heard, and their lines end here
   pub record Goes (out : List ℕ) (s : Receiver) (count end : ℕ) : Type 0 where
     pub part : count ≤ length bodies
-    pub good : badState s ≡ false
+    pub good : badReceiver s ≡ false
     pub ends : end ≤ length out
-    pub same : leavingBehind count (running (length out - end) side (records + count) s (drop count bodies)) out end ≡ all
+    pub same : leavingBehind count (running (length out - end) line (records + count) s (drop count bodies)) out end ≡ all
 
   module _ {out : List ℕ} {s : Receiver} {count end : ℕ} (goes : Goes out s count end) where
     abbrev here : Left
     here = record { receiver = s; count = count; end = end; out = out }
 
     -- none is left to hear
-    stands : running (length out - end) side (records + count) s (drop count bodies) ≡ resting s → here ≡ all
+    stands : running (length out - end) line (records + count) s (drop count bodies) ≡ resting s → here ≡ all
     stands none =
         ap₂ (leftBy s) (sym (add-zero count)) (sym (placed-nil out end))
         ∙ ap (λ (w : Run). leavingBehind count w out end) (sym none)
         ∙ goes .same
 
     pub out-of-room : length out - end < leastRoom → here ≡ all
-    out-of-room full = stands (running-full side (length out - end) (records + count) s (drop count bodies) full)
+    out-of-room full = stands (running-full line (length out - end) (records + count) s (drop count bodies) full)
 
     pub out-of-bodies : length bodies ≤ count → here ≡ all
     unfolding running
@@ -73,24 +73,24 @@ module _ (side : Side) (records : ℕ) (bodies : List ℕ) (all : Left) where
       said = received s left
 
       abbrev text : List ℕ
-      text = callText side (records + count) said
+      text = callText line (records + count) said
 
       text-fits : length text ≤ length out - end
       text-fits =
           let n : records + count + (said .taken - 1) ≤ mostRecords = omega (arith, takes-most) in
-          omega (arith, brought-within (records + count + (said .taken - 1)) side s left n)
+          omega (arith, heard-row-within (records + count + (said .taken - 1)) line s left n)
 
       -- what is left behind it, in the buffer that it left
       rest-same : let w =
-          running (length out - end - length text) side (records + count + said .taken) (said .receiver) (drop (said .taken) left) in
+          running (length out - end - length text) line (records + count + said .taken) (said .receiver) (drop (said .taken) left) in
           leavingBehind (count + said .taken) w (laid out end text) (end + length text)
-          ≡ leavingBehind count (running (length out - end) side (records + count) s left) out end
+          ≡ leavingBehind count (running (length out - end) line (records + count) s left) out end
       unfolding Hears
       rest-same =
-          let w = running (length out - end - length text) side (records + count + said .taken) (said .receiver) (drop (said .taken) left) in
+          let w = running (length out - end - length text) line (records + count + said .taken) (said .receiver) (drop (said .taken) left) in
           ap₂ (leftBy (w .receiver)) (add-assoc count (said .taken) (w .count)) (placed-more text (w .text) out end (goes .ends))
           ∙ ap (λ (v : Run). leavingBehind count v out end)
-          (sym (running-piece side left (length out - end) (records + count) s (goes .good) fits))
+          (sym (running-piece line left (length out - end) (records + count) s (goes .good) fits))
 
       pub next-call : (r : Placed) (o : List ℕ) → ended r o ≡ placed text out end
           → Goes o (said .receiver) (count + said .taken) (r .end)
@@ -98,14 +98,14 @@ module _ (side : Side) (records : ℕ) (bodies : List ℕ) (all : Left) where
           let size : length (laid out end text) ≡ length out = length-laid out end text (omega (arith, text-fits, goes .ends)) in
           let room : length (laid out end text) - (end + length text) ≡ length out - end - length text = omega arith in
           let far : records + (count + said .taken) ≡ records + count + said .taken = omega arith in
-          let on : drop (count + said .taken) bodies ≡ drop (said .taken) left = sym (drop-drop (said .taken) count bodies) in
+          let receiverOn : drop (count + said .taken) bodies ≡ drop (said .taken) left = sym (drop-drop (said .taken) count bodies) in
           subst⁻¹ (λ (e : Ended). Goes (e .out) (said .receiver) (count + said .taken) (e .end)) puts
           (record {
             part = takes-most;
             good = stays-good s left (goes .good);
             ends = omega (arith, text-fits, goes .ends);
             same =
-                (λ i. leavingBehind (count + said .taken) (running (room i) side (far i) (said .receiver) (on i)) (laid out end text)
+                (λ i. leavingBehind (count + said .taken) (running (room i) line (far i) (said .receiver) (receiverOn i)) (laid out end text)
                 (end + length text))
                 ∙ rest-same
                 ∙ goes .same;

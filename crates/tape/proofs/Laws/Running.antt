@@ -12,13 +12,13 @@ use lib.ListN.{length, take, drop, set, getD}
 use lib.Seq.{take-suc, take-suc-set, length-take-le}
 use Rattle.link_spec.specs.declared.receiver.Receiver.{Receiver}
 use Rattle.link_spec.specs.Events.{happened}
-use Rattle.link_spec.specs.Receiving.{Said, badState, received}
+use Rattle.link_spec.specs.Receiving.{Said, badReceiver, received}
 use Rattle.link_spec.proofs.Laws.Receiving.{received-takes, stays-good, empty-piece}
 use Rattle.link_spec.proofs.Laws.Bytes.{later, received-first, received-later}
-use Rattle.tape_spec.specs.declared.tape.Side.{Side}
+use Rattle.tape_spec.specs.declared.tape.Line.{Line}
 use Rattle.tape_spec.specs.Limits.{leastRoom}
-use Rattle.tape_spec.specs.Rows.{brought}
-use Rattle.tape_spec.proofs.Laws.Rows.{no-line}
+use Rattle.tape_spec.specs.Rows.{heardRow}
+use Rattle.tape_spec.proofs.Laws.Rows.{no-row}
 use Rattle.tape.specs.Running.{laced, linked, Gathered, Run, resting, running}
 
 -- ---- gathering
@@ -71,27 +71,27 @@ gathered kind most chunk piece count some few fits front =
 abbrev pub behindRun : ℕ → List ℕ → Run → Run
 behindRun count text w = record { receiver = w .receiver; count = count + w .count; text = text ++ w .text }
 
-takes-one : (s : Receiver) → badState s ≡ false → (b : ℕ) → received s (b ∷ []) .taken ≡ 1
+takes-one : (s : Receiver) → badReceiver s ≡ false → (b : ℕ) → received s (b ∷ []) .taken ≡ 1
 takes-one s good b = let t = received-takes s (b ∷ []) good in omega (arith, t .most, t .some (omega arith))
 
-none-quiet : (s : Receiver) → badState s ≡ false → (bs : List ℕ) → received s bs .taken ≡ 0 → happened (received s bs .event) ≡ false
+none-quiet : (s : Receiver) → badReceiver s ≡ false → (bs : List ℕ) → received s bs .taken ≡ 0 → happened (received s bs .event) ≡ false
 none-quiet s good [] e = ap happened (empty-piece s .1)
 none-quiet s good (b ∷ bs) e = absurd (let t = received-takes s (b ∷ bs) good .some (omega arith) in omega arith)
 
-module _ (side : Side) where
+module _ (line : Line) where
   -- the text that a call brings which began behind so many records: its event is at the last byte taken
   abbrev pub callText : ℕ → Said → List ℕ
-  callText n said = brought (n + (said .taken - 1)) side said
+  callText n said = heardRow (n + (said .taken - 1)) line said
 
   -- one body, where there is room
   pub running-step : (room n : ℕ) (s : Receiver) (b : ℕ) (bs : List ℕ) → leastRoom ≤ room
-      → let said = received s (b ∷ []) in let text = brought n side said in
-      running room side n s (b ∷ bs) ≡ behindRun 1 text (running (room - length text) side (n + 1) (said .receiver) bs)
+      → let said = received s (b ∷ []) in let text = heardRow n line said in
+      running room line n s (b ∷ bs) ≡ behindRun 1 text (running (room - length text) line (n + 1) (said .receiver) bs)
   unfolding running
   running-step room n s b bs h = rw (le-ltb room leastRoom h)
 
   -- and none where there is not
-  pub running-full : (room n : ℕ) (s : Receiver) (bs : List ℕ) → room < leastRoom → running room side n s bs ≡ resting s
+  pub running-full : (room n : ℕ) (s : Receiver) (bs : List ℕ) → room < leastRoom → running room line n s bs ≡ resting s
   unfolding running
   running-full room n s [] h = refl
   running-full room n s (b ∷ bs) h = rw (lt-ltb room leastRoom h)
@@ -99,9 +99,9 @@ module _ (side : Side) where
   -- what a call on all the bodies that are left says of them
   unfoldable pub Hears : ℕ → ℕ → Receiver → List ℕ → Said → Type 0
   Hears room n s bodies said =
-      running room side n s bodies
+      running room line n s bodies
       ≡ behindRun (said .taken) (callText n said)
-      (running (room - length (callText n said)) side (n + said .taken) (said .receiver) (drop (said .taken) bodies))
+      (running (room - length (callText n said)) line (n + said .taken) (said .receiver) (drop (said .taken) bodies))
 
   -- an event at the first body
   hears-first : (room n : ℕ) (s : Receiver) (b : ℕ) (bs : List ℕ) → leastRoom ≤ room → received s (b ∷ []) .taken ≡ 1
@@ -115,9 +115,9 @@ module _ (side : Side) where
     where
       go : (k : ℕ) → said .taken ≡ k → callText n (later said) ≡ callText (n + 1) said
       go zero e =
-          no-line (n + (said .taken + 1 - 1)) side said (some e)
-          ∙ sym (no-line (n + 1 + (said .taken - 1)) side said (some e))
-      go (suc k) e = ap (λ (i : ℕ). brought i side said) (omega arith)
+          no-row (n + (said .taken + 1 - 1)) line said (some e)
+          ∙ sym (no-row (n + 1 + (said .taken - 1)) line said (some e))
+      go (suc k) e = ap (λ (i : ℕ). heardRow i line said) (omega arith)
 
   -- none there, and the others are heard behind it
   hears-later : (room n : ℕ) (s : Receiver) (b : ℕ) (bs : List ℕ) (said : Said) → leastRoom ≤ room
@@ -130,17 +130,17 @@ module _ (side : Side) where
       let one = received s (b ∷ []) in
       let k = said .taken in
       let all : room - 0 ≡ room = omega arith in
-      let m = running (room - length (callText (n + 1) said)) side (n + 1 + k) (said .receiver) (drop k bs) in
+      let m = running (room - length (callText (n + 1) said)) line (n + 1 + k) (said .receiver) (drop k bs) in
       running-step room n s b bs h
-      ∙ ap (λ (t : List ℕ). behindRun 1 t (running (room - length t) side (n + 1) (one .receiver) bs))
-      (no-line n side one quiet)
-      ∙ ap (behindRun 1 []) (ap (λ (r : ℕ). running r side (n + 1) (one .receiver) bs) all ∙ rest)
+      ∙ ap (λ (t : List ℕ). behindRun 1 t (running (room - length t) line (n + 1) (one .receiver) bs))
+      (no-row n line one quiet)
+      ∙ ap (behindRun 1 []) (ap (λ (r : ℕ). running r line (n + 1) (one .receiver) bs) all ∙ rest)
       ∙ ap (λ (c : ℕ). record { receiver = m .receiver; count = c; text = callText (n + 1) said ++ m .text }) (omega arith)
       ∙ ap₂
-      (λ (t : List ℕ) (i : ℕ). behindRun (k + 1) t (running (room - length t) side i (said .receiver) (drop k bs)))
+      (λ (t : List ℕ) (i : ℕ). behindRun (k + 1) t (running (room - length t) line i (said .receiver) (drop k bs)))
       (sym (same-text n said some)) (omega arith)
       ∙ ap (λ (l : List ℕ). behindRun (k + 1) (callText n (later said))
-      (running (room - length (callText n (later said))) side (n + (k + 1)) (said .receiver) l))
+      (running (room - length (callText n (later said))) line (n + (k + 1)) (said .receiver) l))
       (ap (λ (j : ℕ). drop j (b ∷ bs)) (sym (add-one k)))
 
   -- no body left
@@ -149,9 +149,9 @@ module _ (side : Side) where
   hears-none room n s =
       let e = empty-piece s in
       let said = received s [] in
-      rw (no-line (n + (said .taken - 1)) side said (ap happened (e .1)), e .2, e .0)
+      rw (no-row (n + (said .taken - 1)) line said (ap happened (e .1)), e .2, e .0)
 
-  hears-more : (room n : ℕ) (s : Receiver) (b : ℕ) (bs : List ℕ) → badState s ≡ false → leastRoom ≤ room
+  hears-more : (room n : ℕ) (s : Receiver) (b : ℕ) (bs : List ℕ) → badReceiver s ≡ false → leastRoom ≤ room
       → Hears room (n + 1) (received s (b ∷ []) .receiver) bs (received (received s (b ∷ []) .receiver) bs)
       → Hears room n s (b ∷ bs) (received s (b ∷ bs))
   hears-more room n s b bs good h rest = go (happened (received s (b ∷ []) .event)) refl
@@ -162,7 +162,7 @@ module _ (side : Side) where
           subst⁻¹ (Hears room n s (b ∷ bs)) (received-later s good b bs e)
           (hears-later room n s b bs _ h e (none-quiet _ (stays-good s (b ∷ []) good) bs) rest)
 
-  pub running-piece : (bs : List ℕ) (room n : ℕ) (s : Receiver) → badState s ≡ false → leastRoom ≤ room → Hears room n s bs (received s bs)
+  pub running-piece : (bs : List ℕ) (room n : ℕ) (s : Receiver) → badReceiver s ≡ false → leastRoom ≤ room → Hears room n s bs (received s bs)
   unfolding Hears
   running-piece [] room n s good h = hears-none room n s
   running-piece (b ∷ bs) room n s good h =

@@ -13,12 +13,12 @@ use Rattle.link_spec.specs.Receiving.{moved, outcome, heard, received}
 use Rattle.text.specs.Ascii.{ascii}
 use Rattle.text.specs.Decimal.{spelled}
 use Rattle.text.specs.Hex.{digit, further, pairs}
-use Rattle.tape_spec.specs.Rows.{headerLine, letter, line, nameOf, eventLine, word, lastLine}
-use Rattle.tape_spec.specs.Whole.{kind, parts, entryOf, entries, entryLines, listing}
+use Rattle.tape_spec.specs.Rows.{headerRow, letter, row, nameOf, eventRow, word, lastRow}
+use Rattle.tape_spec.specs.Whole.{kind, parts, entryOf, entries, entryRows, listing}
 use Rattle.tape_spec.specs.Examples.{Holds, examples}
 
 pub each-holds : Each Holds examples
 unfolding stuffed stuffing shiftStep shiftSteps byteStep run residue fcs fcsBytes total sum checkOf withCheck front came alike isRight
     takes kept plain partner contentByte inside within turn verdict moved outcome heard received ascii spelled digit further pairs
-    headerLine letter line nameOf eventLine word lastLine kind parts entryOf entries entryLines listing
+    headerRow letter row nameOf eventRow word lastRow kind parts entryOf entries entryRows listing
 each-holds = refl and refl and refl and refl and refl and refl and refl and refl and refl and refl and refl and refl and refl and none

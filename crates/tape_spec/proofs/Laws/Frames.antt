@@ -12,34 +12,34 @@ use Rattle.ground.proofs.Laws.Choice.{cond-elim}
 use Rattle.ground.proofs.Laws.Lists.{drop-on, drop-none}
 use Rattle.link_spec.specs.declared.receiver.Receiver.{Receiver}
 use Rattle.link_spec.specs.Events.{Name, FRAME, happened}
-use Rattle.link_spec.specs.Receiving.{Said, badState, received}
+use Rattle.link_spec.specs.Receiving.{Said, badReceiver, received}
 use Rattle.link_spec.specs.Hearing.{Told, toldAt, note, IsFresh, Hearing, over}
 use Rattle.link_spec.specs.Listing.{Lists}
 use Rattle.link_spec.proofs.Laws.Receiving.{stays-good}
 use Rattle.link_spec.proofs.Laws.Bytes.{note-some, note-none, hearing-byte}
 use Rattle.link_spec.proofs.Laws.Fresh.{fresh-point, fresh-station, fresh-good}
 use Rattle.link_spec.proofs.Laws.Demand.{hearing-lists}
-use Rattle.tape_spec.specs.declared.tape.Side.{Side}
-use Rattle.tape_spec.specs.declared.tape.Side.the-variants.{Point, Addressed}
+use Rattle.tape_spec.specs.declared.tape.Line.{Line}
+use Rattle.tape_spec.specs.declared.tape.Line.the-variants.{Point, Addressed}
 use Rattle.tape_spec.specs.Rows.{carried}
 use Rattle.tape_spec.specs.declared.tape.Receivers.{Receivers}
-use Rattle.tape_spec.specs.Whole.{Record, heard, Entry, entry, entryOf, entries, lineOn, freshReceivers, on, turned}
-use Rattle.tape_spec.specs.Frames.{byteOn, bytesOn, Carries, Rise, Shows}
+use Rattle.tape_spec.specs.Whole.{Record, heardOn, Entry, entry, entryOf, entries, stationOn, freshReceivers, receiverOn, withReceiver}
+use Rattle.tape_spec.specs.Frames.{byteOn, bytesOn, HasByte, NumbersRise, Shows}
 
 -- ---- numbers rise
 
-rise-sooner : {least more : ℕ} (es : List Entry) → least ≤ more → Rise more es → Rise least es
+rise-sooner : {least more : ℕ} (es : List Entry) → least ≤ more → NumbersRise more es → NumbersRise least es
 rise-sooner [] h r = tt
 rise-sooner (e ∷ es) h r = (omega (arith, r .0), r .1)
 
-rise-entries : (rs : List Record) (n : ℕ) (r : Receivers) → Rise n (entries n r rs)
+rise-entries : (rs : List Record) (n : ℕ) (r : Receivers) → NumbersRise n (entries n r rs)
 unfolding entries entryOf
 rise-entries [] n r = tt
-rise-entries (heard side b ∷ rs) n r =
-    let said = received (on side r) (b ∷ []) in
-    let u = turned side (said .receiver) r in
+rise-entries (heardOn line b ∷ rs) n r =
+    let said = received (receiverOn line r) (b ∷ []) in
+    let u = withReceiver line (said .receiver) r in
     let rest = rise-entries rs (n + 1) u in
-    cond-elim (λ (x : List Entry). Rise n (x ++ entries (n + 1) u rs)) (happened (said .event)) (λ t. (omega arith, rest))
+    cond-elim (λ (x : List Entry). NumbersRise n (x ++ entries (n + 1) u rs)) (happened (said .event)) (λ t. (omega arith, rest))
     (λ f. rise-sooner (entries (n + 1) u rs) (omega arith) rest)
 
 -- ---- a hearing with one call for each byte
@@ -55,7 +55,7 @@ told p s (b ∷ bs) =
     let said = received s (b ∷ []) in
     toldOf (p + 1) said ++ told (p + 1) (said .receiver) bs
 
-hears : (stream rest : List ℕ) (p : ℕ) (s : Receiver) → badState s ≡ false → drop p stream ≡ rest → Hearing stream s p (told p s rest)
+hears : (stream rest : List ℕ) (p : ℕ) (s : Receiver) → badReceiver s ≡ false → drop p stream ≡ rest → Hearing stream s p (told p s rest)
 unfolding told
 hears stream [] p s good left = over {before = p} (drop-none stream p left)
 hears stream (b ∷ bs) p s good left =
@@ -63,38 +63,38 @@ hears stream (b ∷ bs) p s good left =
     hearing-byte stream b bs p s (told (p + 1) next bs) good left
     (hears stream bs (p + 1) next (stays-good s (b ∷ []) good) (drop-on stream p 1 left))
 
-fresh-on : (side : Side) → IsFresh (lineOn side) (on side freshReceivers)
+fresh-on : (line : Line) → IsFresh (stationOn line) (receiverOn line freshReceivers)
 fresh-on Point = fresh-point
 fresh-on Addressed = fresh-station 0x00 refl
 
-told-lists : (side : Side) (stream : List ℕ) → Lists (lineOn side) stream (told 0 (on side freshReceivers) stream)
-told-lists side stream =
-    let f = fresh-on side in
-    hearing-lists f (hears stream stream 0 (on side freshReceivers) (fresh-good f) refl)
+told-lists : (line : Line) (stream : List ℕ) → Lists (stationOn line) stream (told 0 (receiverOn line freshReceivers) stream)
+told-lists line stream =
+    let f = fresh-on line in
+    hearing-lists f (hears stream stream 0 (receiverOn line freshReceivers) (fresh-good f) refl)
 
 -- ---- the FRAME entries of a side are the FRAMEs that its bytes tell
 
-module _ (records : List Record) (side : Side) where
+module _ (records : List Record) (line : Line) where
   -- before these stand so many records, and among them so many of this side
   record Behind (n p : ℕ) (rs : List Record) : Type 0 where
     done : List Record
     split : records ≡ done ++ rs
     numbered : n ≡ length done
-    placed : p ≡ length (bytesOn side done)
+    placed : p ≡ length (bytesOn line done)
 
-  behind-carries : {n p b : ℕ} {rs : List Record} → Behind n p (heard side b ∷ rs) → Carries records n side (p + 1)
+  behind-carries : {n p b : ℕ} {rs : List Record} → Behind n p (heardOn line b ∷ rs) → HasByte records n line (p + 1)
   behind-carries {b} {rs} h =
       record { before = h .done; byte = b; after = rs; split = h .split; numbered = h .numbered; placed = ap (_+ 1) (h .placed) }
 
   length-bytes : (done : List Record) (x : Record)
-      → length (bytesOn side (done ++ (x ∷ []))) ≡ length (bytesOn side done) + length (byteOn side x)
+      → length (bytesOn line (done ++ (x ∷ []))) ≡ length (bytesOn line done) + length (byteOn line x)
   unfolding bytesOn
-  length-bytes [] x = omega (arith, length-append (byteOn side x) [])
+  length-bytes [] x = omega (arith, length-append (byteOn line x) [])
   length-bytes (d ∷ done) x =
-      let d-bytes = byteOn side d in
-      omega (arith, length-append d-bytes (bytesOn side (done ++ (x ∷ []))), length-append d-bytes (bytesOn side done), length-bytes done x)
+      let d-bytes = byteOn line d in
+      omega (arith, length-append d-bytes (bytesOn line (done ++ (x ∷ []))), length-append d-bytes (bytesOn line done), length-bytes done x)
 
-  behind-next : {n p : ℕ} {x : Record} {rs : List Record} (q : ℕ) → q ≡ p + length (byteOn side x) → Behind n p (x ∷ rs)
+  behind-next : {n p : ℕ} {x : Record} {rs : List Record} (q : ℕ) → q ≡ p + length (byteOn line x) → Behind n p (x ∷ rs)
       → Behind (n + 1) q rs
   behind-next {x} {rs} q e h =
       record {
@@ -108,30 +108,30 @@ module _ (records : List Record) (side : Side) where
     -- a FRAME with this content is among the entries of this side exactly where it is told, at the same record
     record Matches (es : List Entry) (ts : List Told) : Type 0 where
       each : (place : ℕ) → List·Memᴰ (toldAt place FRAME front) ts
-          → (number : ℕ) × Carries records number side place × List·Memᴰ (entry number side FRAME front) es
-      only : (number : ℕ) → List·Memᴰ (entry number side FRAME front) es
-          → (place : ℕ) × Carries records number side place × List·Memᴰ (toldAt place FRAME front) ts
+          → (number : ℕ) × HasByte records number line place × List·Memᴰ (entry number line FRAME front) es
+      only : (number : ℕ) → List·Memᴰ (entry number line FRAME front) es
+          → (place : ℕ) × HasByte records number line place × List·Memᴰ (toldAt place FRAME front) ts
 
     match-none : Matches [] []
     match-none = record { each = λ place m. absurd (List·Memᴰ·not-nil m); only = λ number m. absurd (List·Memᴰ·not-nil m) }
 
     -- one more of each, of the same record
-    match-more : {es : List Entry} {ts : List Told} (n p : ℕ) (event : Name) (content : List ℕ) → Carries records n side (p + 1)
-        → Matches es ts → Matches (entry n side event content ∷ es) (toldAt (p + 1) event content ∷ ts)
+    match-more : {es : List Entry} {ts : List Told} (n p : ℕ) (event : Name) (content : List ℕ) → HasByte records n line (p + 1)
+        → Matches es ts → Matches (entry n line event content ∷ es) (toldAt (p + 1) event content ∷ ts)
     match-more n p event content here rest =
         record {
           each = λ place m. ⊎-elim
               (λ e. (
                 n,
-                subst⁻¹ (Carries records n side) (ap (λ (t : Told). t .place) e) here,
-                List·Memᴰ·head (ap (λ (t : Told). entry n side (t .event) (t .content)) e),
+                subst⁻¹ (HasByte records n line) (ap (λ (t : Told). t .place) e) here,
+                List·Memᴰ·head (ap (λ (t : Told). entry n line (t .event) (t .content)) e),
               ))
               (λ h. let x = rest .each place h in (x .0, x .1, List·Memᴰ·tail (x .2)))
               (List·Memᴰ·cases-cons m);
           only = λ number m. ⊎-elim
               (λ e. (
                 p + 1,
-                subst⁻¹ (λ (k : ℕ). Carries records k side (p + 1)) (ap (λ (x : Entry). x .number) e) here,
+                subst⁻¹ (λ (k : ℕ). HasByte records k line (p + 1)) (ap (λ (x : Entry). x .number) e) here,
                 List·Memᴰ·head (ap (λ (x : Entry). toldAt (p + 1) (x .event) (x .content)) e),
               ))
               (λ h. let x = rest .only number h in (x .0, x .1, List·Memᴰ·tail (x .2)))
@@ -139,8 +139,8 @@ module _ (records : List Record) (side : Side) where
         }
 
     -- one more record of this side
-    match-same : {es : List Entry} {ts : List Told} (n p : ℕ) (said : Said) → Carries records n side (p + 1) → Matches es ts
-        → Matches (entryOf n side said ++ es) (toldOf (p + 1) said ++ ts)
+    match-same : {es : List Entry} {ts : List Told} (n p : ℕ) (said : Said) → HasByte records n line (p + 1) → Matches es ts
+        → Matches (entryOf n line said ++ es) (toldOf (p + 1) said ++ ts)
     unfolding entryOf
     match-same {es} {ts} n p said here rest =
         cond-elim (λ (x : List Entry). Matches (x ++ es) (toldOf (p + 1) said ++ ts)) (happened (said .event))
@@ -148,14 +148,14 @@ module _ (records : List Record) (side : Side) where
         (λ f. rw (note-none (p + 1) (said .event) (carried said) f) rest)
 
     -- one more of the other
-    match-other : {es : List Entry} {ts : List Told} (n : ℕ) (other : Side) (said : Said) → (side ≡ other → ⊥) → Matches es ts
+    match-other : {es : List Entry} {ts : List Told} (n : ℕ) (other : Line) (said : Said) → (line ≡ other → ⊥) → Matches es ts
         → Matches (entryOf n other said ++ es) ts
     unfolding entryOf
     match-other {es} {ts} n other said apart rest =
         cond-elim (λ (x : List Entry). Matches (x ++ es) ts) (happened (said .event))
         (λ t. record {
           each = λ place m. let x = rest .each place m in (x .0, x .1, List·Memᴰ·tail (x .2));
-          only = λ number m. ⊎-elim (λ e. absurd (apart (ap (λ (x : Entry). x .side) e))) (rest .only number) (List·Memᴰ·cases-cons m);
+          only = λ number m. ⊎-elim (λ e. absurd (apart (ap (λ (x : Entry). x .line) e))) (rest .only number) (List·Memᴰ·cases-cons m);
         })
         (λ f. rest)
 
@@ -163,39 +163,39 @@ apart : Point ≡ Addressed → ⊥
 apart e = let z : _≡_ {A = ℕ} 0 1 = cc in omega arith
 
 module _ (records : List Record) (front : List ℕ) where
-  matches : (side : Side) (rs : List Record) (n p : ℕ) (r : Receivers) → Behind records side n p rs
-      → Matches records side front (entries n r rs) (told p (on side r) (bytesOn side rs))
+  matches : (line : Line) (rs : List Record) (n p : ℕ) (r : Receivers) → Behind records line n p rs
+      → Matches records line front (entries n r rs) (told p (receiverOn line r) (bytesOn line rs))
   unfolding entries bytesOn told
-  matches side [] n p r h = match-none records side front
-  matches Point (heard Point b ∷ rs) n p r h =
+  matches line [] n p r h = match-none records line front
+  matches Point (heardOn Point b ∷ rs) n p r h =
       let said = received (r .point) (b ∷ []) in
       match-same records Point front n p said (behind-carries records Point h)
-      (matches Point rs (n + 1) (p + 1) (turned Point (said .receiver) r) (behind-next records Point (p + 1) (omega arith) h))
-  matches Point (heard Addressed b ∷ rs) n p r h =
+      (matches Point rs (n + 1) (p + 1) (withReceiver Point (said .receiver) r) (behind-next records Point (p + 1) (omega arith) h))
+  matches Point (heardOn Addressed b ∷ rs) n p r h =
       let said = received (r .addressed) (b ∷ []) in
       match-other records Point front n Addressed said apart
-      (matches Point rs (n + 1) p (turned Addressed (said .receiver) r) (behind-next records Point p (omega arith) h))
-  matches Addressed (heard Point b ∷ rs) n p r h =
+      (matches Point rs (n + 1) p (withReceiver Addressed (said .receiver) r) (behind-next records Point p (omega arith) h))
+  matches Addressed (heardOn Point b ∷ rs) n p r h =
       let said = received (r .point) (b ∷ []) in
       match-other records Addressed front n Point said (λ e. apart (sym e))
-      (matches Addressed rs (n + 1) p (turned Point (said .receiver) r) (behind-next records Addressed p (omega arith) h))
-  matches Addressed (heard Addressed b ∷ rs) n p r h =
+      (matches Addressed rs (n + 1) p (withReceiver Point (said .receiver) r) (behind-next records Addressed p (omega arith) h))
+  matches Addressed (heardOn Addressed b ∷ rs) n p r h =
       let said = received (r .addressed) (b ∷ []) in
       match-same records Addressed front n p said (behind-carries records Addressed h)
-      (matches Addressed rs (n + 1) (p + 1) (turned Addressed (said .receiver) r) (behind-next records Addressed (p + 1) (omega arith) h))
+      (matches Addressed rs (n + 1) (p + 1) (withReceiver Addressed (said .receiver) r) (behind-next records Addressed (p + 1) (omega arith) h))
 
 -- ---- demand 3
 
 pub frames-shown : (records : List Record) → Shows records (entries 0 freshReceivers records)
 unfolding bytesOn
 frames-shown records =
-    let same : (side : Side) (front : List ℕ)
-    → Matches records side front (entries 0 freshReceivers records) (told 0 (on side freshReceivers) (bytesOn side records)) =
-    λ side front. matches records front side records 0 0 freshReceivers
+    let same : (line : Line) (front : List ℕ)
+    → Matches records line front (entries 0 freshReceivers records) (told 0 (receiverOn line freshReceivers) (bytesOn line records)) =
+    λ line front. matches records front line records 0 0 freshReceivers
     (record { done = []; split = refl; numbered = refl; placed = refl }) in
     record {
       rise = rise-entries records 0 freshReceivers;
-      each = λ side place front stands. same side front .each place (told-lists side (bytesOn side records) .each place front stands);
-      only = λ number side front m. let x = same side front .only number m in
-          (x .0, x .1, told-lists side (bytesOn side records) .only (x .0) front (x .2));
+      each = λ line place front stands. same line front .each place (told-lists line (bytesOn line records) .each place front stands);
+      only = λ number line front m. let x = same line front .only number m in
+          (x .0, x .1, told-lists line (bytesOn line records) .only (x .0) front (x .2));
     }

@@ -11,35 +11,35 @@ use lib.ListN.{length, drop}
 use Rattle.ground.proofs.Laws.Choice.{cond-elim}
 use Rattle.link_spec.specs.Events.{happened}
 use Rattle.link_spec.specs.Receiving.{Said, received}
-use Rattle.tape_spec.specs.declared.tape.Side.{Side}
+use Rattle.tape_spec.specs.declared.tape.Line.{Line}
 use Rattle.tape_spec.specs.declared.tape.Ending.{Ending}
 use Rattle.tape_spec.specs.declared.tape.Ending.the-variants.{Full as FULL}
-use Rattle.tape_spec.specs.Rows.{brought, lastLine}
-use Rattle.tape_spec.proofs.Laws.Rows.{no-line}
+use Rattle.tape_spec.specs.Rows.{heardRow, lastRow}
+use Rattle.tape_spec.proofs.Laws.Rows.{no-row}
 use Rattle.tape_spec.specs.declared.tape.Next.{Next}
 use Rattle.tape_spec.specs.declared.tape.Next.the-variants.{Kind, Body, Bad, Full}
 use Rattle.tape_spec.specs.declared.tape.Receivers.{Receivers}
 use Rattle.tape_spec.specs.declared.tape.Tape.{Tape}
 use Rattle.tape_spec.specs.Limits.{mostRecords}
-use Rattle.tape_spec.specs.Whole.{known, unknown, kind, Parts, noMore, bodyless, before, parts, turned, on, Entry, entryOf, entries, entryLines, eventLines}
+use Rattle.tape_spec.specs.Whole.{known, unknown, kind, Parts, noMore, bodyless, before, parts, withReceiver, receiverOn, Entry, entryOf, entries, entryRows, eventRows}
 use Rattle.tape_spec.specs.Whole as whole
-use Rattle.tape_spec.specs.Taping.{being, awaited, behindKind, stepAt, stepped, quiet, isOver, Went, going, ending, lastOf}
+use Rattle.tape_spec.specs.Taping.{tapeOf, awaited, afterKind, advance, advanced, quiet, isOver, Went, going, ending, lastRowOf}
 use Rattle.tape_spec.proofs.Laws.Taping.{going-elim}
 
 -- the text that is to come, the last line with it
 unfoldable pub remaining : Tape → List ℕ → List ℕ
-remaining t [] = lastOf t
-remaining t (b ∷ bs) = stepped t b .text ++ remaining (stepped t b .tape) bs
+remaining t [] = lastRowOf t
+remaining t (b ∷ bs) = advanced t b .text ++ remaining (advanced t b .tape) bs
 
 -- ---- a call takes part of it
 
 step-remains : (t : Tape) (b : ℕ) (l : List ℕ) (m : Went)
-    → let s = stepped t b in
+    → let s = advanced t b in
     remaining (s .tape) l ≡ m .text ++ remaining (m .tape) (drop (m .taken) l)
     → remaining t (b ∷ l) ≡ s .text ++ m .text ++ remaining (m .tape) (drop (1 + m .taken) (b ∷ l))
 unfolding remaining
 step-remains t b l m same =
-    let text = stepped t b .text in
+    let text = advanced t b .text in
     let next : suc (m .taken) ≡ 1 + m .taken = omega arith in
     ap (λ (x : List ℕ). text ++ x) same
     ∙ sym (append-assoc text (m .text) (remaining (m .tape) (drop (m .taken) l)))
@@ -54,14 +54,14 @@ going-remains chunk rest room t =
     (λ n u l. refl) (λ n u b bs m more roomy same. step-remains u b (bs ++ rest) m same) chunk room t
 
 -- behind the last byte that is read only the last line is left
-over-step : (next : Next) (t : Tape) (b : ℕ) → isOver next ≡ true → stepAt next t b ≡ quiet t
-unfolding stepAt
+over-step : (next : Next) (t : Tape) (b : ℕ) → isOver next ≡ true → advance next t b ≡ quiet t
+unfolding advance
 over-step Kind t b e = absurd (false≢true e)
-over-step (Body side) t b e = absurd (false≢true e)
+over-step (Body line) t b e = absurd (false≢true e)
 over-step Bad t b e = refl
 over-step Full t b e = refl
 
-pub over-remains : (l : List ℕ) (t : Tape) → isOver (t .next) ≡ true → remaining t l ≡ lastOf t
+pub over-remains : (l : List ℕ) (t : Tape) → isOver (t .next) ≡ true → remaining t l ≡ lastRowOf t
 unfolding remaining
 over-remains [] t over = refl
 over-remains (b ∷ bs) t over = rw (over-step (t .next) t b over) (over-remains bs t over)
@@ -70,61 +70,61 @@ over-remains (b ∷ bs) t over = rw (over-step (t .next) t b over) (over-remains
 
 -- the text of records, and the last line
 abbrev text : ℕ → Receivers → Parts → List ℕ
-text n r p = eventLines n r (p .records) ++ lastLine (p .ending) (n + length (p .records))
+text n r p = eventRows n r (p .records) ++ lastRow (p .ending) (n + length (p .records))
 
 -- a record's line, and those of the others
-entry-lines : (n : ℕ) (side : Side) (said : Said) (es : List Entry)
-    → brought n side said ++ entryLines es ≡ entryLines (entryOf n side said ++ es)
-unfolding entryOf entryLines
-entry-lines n side said es =
-    cond-elim (λ (x : List Entry). brought n side said ++ entryLines es ≡ entryLines (x ++ es)) (happened (said .event)) (λ t. refl)
-    (λ f. ap (λ (l : List ℕ). l ++ entryLines es) (no-line n side said f))
+entry-rows : (n : ℕ) (line : Line) (said : Said) (es : List Entry)
+    → heardRow n line said ++ entryRows es ≡ entryRows (entryOf n line said ++ es)
+unfolding entryOf entryRows
+entry-rows n line said es =
+    cond-elim (λ (x : List Entry). heardRow n line said ++ entryRows es ≡ entryRows (x ++ es)) (happened (said .event)) (λ t. refl)
+    (λ f. ap (λ (l : List ℕ). l ++ entryRows es) (no-row n line said f))
 
 -- no record more
-text-none : (n : ℕ) (r : Receivers) (next : Next) → lastOf (being n next r) ≡ text n r (noMore (ending next))
-unfolding entries entryLines
-text-none n r next = ap (lastLine (ending next)) (sym (add-zero n))
+text-none : (n : ℕ) (r : Receivers) (next : Next) → lastRowOf (tapeOf n next r) ≡ text n r (noMore (ending next))
+unfolding entries entryRows
+text-none n r next = ap (lastRow (ending next)) (sym (add-zero n))
 
-kind-bodyless : (n k : ℕ) → ending (behindKind n k) ≡ cond (eqb n mostRecords) FULL (bodyless (kind k))
-unfolding behindKind
+kind-bodyless : (n k : ℕ) → ending (afterKind n k) ≡ cond (eqb n mostRecords) FULL (bodyless (kind k))
+unfolding afterKind
 kind-bodyless n k = go (eqb n mostRecords) (kind k)
   where
     go : (e : Bool) (x : whole.Kind) → ending (cond e Full (awaited x)) ≡ cond e FULL (bodyless x)
     go true x = refl
-    go false (known side) = refl
+    go false (known line) = refl
     go false unknown = refl
 
 -- a record before others
-record-remains : (n : ℕ) (r : Receivers) (side : Side) (b : ℕ) (bs : List ℕ)
-    → let u = turned side (received (on side r) (b ∷ []) .receiver) r in
-    remaining (being (n + 1) Kind u) bs ≡ text (n + 1) u (parts (n + 1) bs)
-    → remaining (being n (Body side) r) (b ∷ bs) ≡ text n r (before (known side) b (parts (n + 1) bs))
-unfolding remaining stepAt entries
-record-remains n r side b bs same =
-    let said = received (on side r) (b ∷ []) in
-    let u = turned side (said .receiver) r in
+record-remains : (n : ℕ) (r : Receivers) (line : Line) (b : ℕ) (bs : List ℕ)
+    → let u = withReceiver line (received (receiverOn line r) (b ∷ []) .receiver) r in
+    remaining (tapeOf (n + 1) Kind u) bs ≡ text (n + 1) u (parts (n + 1) bs)
+    → remaining (tapeOf n (Body line) r) (b ∷ bs) ≡ text n r (before (known line) b (parts (n + 1) bs))
+unfolding remaining advance entries
+record-remains n r line b bs same =
+    let said = received (receiverOn line r) (b ∷ []) in
+    let u = withReceiver line (said .receiver) r in
     let p = parts (n + 1) bs in
     let far : n + 1 + length (p .records) ≡ n + suc (length (p .records)) = omega arith in
-    ap (λ (x : List ℕ). brought n side said ++ x) (same ∙ ap (λ (k : ℕ). eventLines (n + 1) u (p .records) ++ lastLine (p .ending) k) far)
-    ∙ sym (append-assoc (brought n side said) (eventLines (n + 1) u (p .records)) (lastLine (p .ending) (n + suc (length (p .records)))))
-    ∙ ap (λ (l : List ℕ). l ++ lastLine (p .ending) (n + suc (length (p .records))))
-    (entry-lines n side said (entries (n + 1) u (p .records)))
+    ap (λ (x : List ℕ). heardRow n line said ++ x) (same ∙ ap (λ (k : ℕ). eventRows (n + 1) u (p .records) ++ lastRow (p .ending) k) far)
+    ∙ sym (append-assoc (heardRow n line said) (eventRows (n + 1) u (p .records)) (lastRow (p .ending) (n + suc (length (p .records)))))
+    ∙ ap (λ (l : List ℕ). l ++ lastRow (p .ending) (n + suc (length (p .records))))
+    (entry-rows n line said (entries (n + 1) u (p .records)))
 
 -- a kind and a byte behind it
 kind-remains : (n : ℕ) (r : Receivers) (k b : ℕ) (bs : List ℕ)
-    → ((u : Receivers) → remaining (being (n + 1) Kind u) bs ≡ text (n + 1) u (parts (n + 1) bs))
-    → remaining (being n (behindKind n k) r) (b ∷ bs) ≡ text n r (parts n (k ∷ b ∷ bs))
-unfolding behindKind parts
+    → ((u : Receivers) → remaining (tapeOf (n + 1) Kind u) bs ≡ text (n + 1) u (parts (n + 1) bs))
+    → remaining (tapeOf n (afterKind n k) r) (b ∷ bs) ≡ text n r (parts n (k ∷ b ∷ bs))
+unfolding afterKind parts
 kind-remains n r k b bs rest = go (eqb n mostRecords) (kind k)
   where
     go : (e : Bool) (x : whole.Kind)
-        → remaining (being n (cond e Full (awaited x)) r) (b ∷ bs) ≡ text n r (cond e (noMore FULL) (before x b (parts (n + 1) bs)))
-    go true x = over-remains (b ∷ bs) (being n Full r) refl ∙ text-none n r Full
-    go false (known side) = record-remains n r side b bs (rest (turned side (received (on side r) (b ∷ []) .receiver) r))
-    go false unknown = over-remains (b ∷ bs) (being n Bad r) refl ∙ text-none n r Bad
+        → remaining (tapeOf n (cond e Full (awaited x)) r) (b ∷ bs) ≡ text n r (cond e (noMore FULL) (before x b (parts (n + 1) bs)))
+    go true x = over-remains (b ∷ bs) (tapeOf n Full r) refl ∙ text-none n r Full
+    go false (known line) = record-remains n r line b bs (rest (withReceiver line (received (receiverOn line r) (b ∷ []) .receiver) r))
+    go false unknown = over-remains (b ∷ bs) (tapeOf n Bad r) refl ∙ text-none n r Bad
 
-pub remaining-listed : (tape : List ℕ) (n : ℕ) (r : Receivers) → remaining (being n Kind r) tape ≡ text n r (parts n tape)
-unfolding remaining stepAt parts
+pub remaining-listed : (tape : List ℕ) (n : ℕ) (r : Receivers) → remaining (tapeOf n Kind r) tape ≡ text n r (parts n tape)
+unfolding remaining advance parts
 remaining-listed [] n r = text-none n r Kind
-remaining-listed (k ∷ []) n r = text-none n r (behindKind n k) ∙ ap (λ (e : Ending). text n r (noMore e)) (kind-bodyless n k)
+remaining-listed (k ∷ []) n r = text-none n r (afterKind n k) ∙ ap (λ (e : Ending). text n r (noMore e)) (kind-bodyless n k)
 remaining-listed (k ∷ b ∷ bs) n r = kind-remains n r k b bs (remaining-listed bs (n + 1))

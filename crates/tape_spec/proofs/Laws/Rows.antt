@@ -14,12 +14,12 @@ use Rattle.text.proofs.Laws.Decimal.{length-decimal}
 use Rattle.text.proofs.Laws.Hex.{pairs-within}
 use Rattle.tape_spec.specs.declared.tape.Ending.{Ending}
 use Rattle.tape_spec.specs.declared.tape.Ending.the-variants.{End, Cut, Bad, Full}
-use Rattle.tape_spec.specs.declared.tape.Side.{Side}
-use Rattle.tape_spec.specs.declared.tape.Side.the-variants.{Point, Addressed}
+use Rattle.tape_spec.specs.declared.tape.Line.{Line}
+use Rattle.tape_spec.specs.declared.tape.Line.the-variants.{Point, Addressed}
 use Rattle.tape_spec.specs.Limits.{mostRecords, leastRoom, mostLast}
-use Rattle.tape_spec.specs.Rows.{headerLine, letter, line, eventLine, carried, brought, word, lastLine, nameOf}
+use Rattle.tape_spec.specs.Rows.{headerRow, letter, row, eventRow, carried, heardRow, word, lastRow, nameOf}
 
-length-letter : (side : Side) → length (letter side) ≡ 3
+length-letter : (line : Line) → length (letter line) ≡ 3
 unfolding letter ascii
 length-letter Point = refl
 length-letter Addressed = refl
@@ -41,47 +41,47 @@ length-name LONG = omega arith
 length-name PAIR = omega arith
 length-name ADDR = omega arith
 
-pub line-within : (n : ℕ) (side : Side) (name content : List ℕ) → n ≤ mostRecords → length name ≤ 6 → length content ≤ mostContent
-    → length (line n side name content) ≤ leastRoom
-unfolding line ascii
-line-within n side name content few short fits =
+pub row-within : (n : ℕ) (line : Line) (name content : List ℕ) → n ≤ mostRecords → length name ≤ 6 → length content ≤ mostContent
+    → length (row n line name content) ≤ leastRoom
+unfolding row ascii
+row-within n line name content few short fits =
     let d = length-decimal n few in
-    let l = length-letter side in
+    let l = length-letter line in
     let p = pairs-within content mostContent (omega arith) fits in
     simp length-append (omega arith)
 
-pub event-within : (n : ℕ) (side : Side) (event : Name) (content : List ℕ) → n ≤ mostRecords → length content ≤ mostContent
-    → length (eventLine n side event content) ≤ leastRoom
-unfolding eventLine
-event-within n side NONE content few fits = zero-le
-event-within n side FRAME content few fits = line-within n side (nameOf FRAME) content few (length-name FRAME) fits
-event-within n side CHECK content few fits = line-within n side (nameOf CHECK) [] few (length-name CHECK) zero-le
-event-within n side SHORT content few fits = line-within n side (nameOf SHORT) [] few (length-name SHORT) zero-le
-event-within n side LONG content few fits = line-within n side (nameOf LONG) [] few (length-name LONG) zero-le
-event-within n side PAIR content few fits = line-within n side (nameOf PAIR) [] few (length-name PAIR) zero-le
-event-within n side ADDR content few fits = line-within n side (nameOf ADDR) [] few (length-name ADDR) zero-le
+pub event-within : (n : ℕ) (line : Line) (event : Name) (content : List ℕ) → n ≤ mostRecords → length content ≤ mostContent
+    → length (eventRow n line event content) ≤ leastRoom
+unfolding eventRow
+event-within n line NONE content few fits = zero-le
+event-within n line FRAME content few fits = row-within n line (nameOf FRAME) content few (length-name FRAME) fits
+event-within n line CHECK content few fits = row-within n line (nameOf CHECK) [] few (length-name CHECK) zero-le
+event-within n line SHORT content few fits = row-within n line (nameOf SHORT) [] few (length-name SHORT) zero-le
+event-within n line LONG content few fits = row-within n line (nameOf LONG) [] few (length-name LONG) zero-le
+event-within n line PAIR content few fits = row-within n line (nameOf PAIR) [] few (length-name PAIR) zero-le
+event-within n line ADDR content few fits = row-within n line (nameOf ADDR) [] few (length-name ADDR) zero-le
 
 -- and the longest last line in its places
-pub last-within : (e : Ending) (n : ℕ) → n ≤ mostRecords → length (lastLine e n) ≤ mostLast
-unfolding lastLine ascii
+pub last-within : (e : Ending) (n : ℕ) → n ≤ mostRecords → length (lastRow e n) ≤ mostLast
+unfolding lastRow ascii
 last-within e n few =
     let w = length-word e in
     let d = length-decimal n few in
     simp length-append (omega arith)
 
 -- the header line has room too
-pub header-within : length headerLine ≤ leastRoom
-unfolding headerLine ascii
+pub header-within : length headerRow ≤ leastRoom
+unfolding headerRow ascii
 header-within = omega arith
 
 -- ---- which line an event has
 
 -- none where nothing happened
-pub no-line : (n : ℕ) (side : Side) (said : Said) → happened (said .event) ≡ false → brought n side said ≡ []
-unfolding eventLine
-no-line n side said quiet = go (said .event) quiet
+pub no-row : (n : ℕ) (line : Line) (said : Said) → happened (said .event) ≡ false → heardRow n line said ≡ []
+unfolding eventRow
+no-row n line said quiet = go (said .event) quiet
   where
-    go : (event : Name) → happened event ≡ false → eventLine n side event (carried said) ≡ []
+    go : (event : Name) → happened event ≡ false → eventRow n line event (carried said) ≡ []
     go NONE e = refl
     go FRAME e = absurd (true≢false e)
     go CHECK e = absurd (true≢false e)
@@ -91,6 +91,6 @@ no-line n side said quiet = go (said .event) quiet
     go ADDR e = absurd (true≢false e)
 
 -- FRAME's shows the content
-pub frame-line : (n : ℕ) (side : Side) (content : List ℕ) → line n side (nameOf FRAME) content ≡ eventLine n side FRAME content
-unfolding eventLine
-frame-line n side content = refl
+pub frame-row : (n : ℕ) (line : Line) (content : List ℕ) → row n line (nameOf FRAME) content ≡ eventRow n line FRAME content
+unfolding eventRow
+frame-row n line content = refl

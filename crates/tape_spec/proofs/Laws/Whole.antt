@@ -9,13 +9,13 @@ use native.Mathlib.Omega.{arith}
 use borrow.Author.Tests.{ne-eqb, eqb-false}
 use lib.Dec.{eqb}
 use lib.ListN.{length}
-use Rattle.tape_spec.specs.declared.tape.Side.{Side}
-use Rattle.tape_spec.specs.declared.tape.Side.the-variants.{Point, Addressed}
+use Rattle.tape_spec.specs.declared.tape.Line.{Line}
+use Rattle.tape_spec.specs.declared.tape.Line.the-variants.{Point, Addressed}
 use Rattle.tape_spec.specs.declared.tape.Ending.the-variants.{Full as FULL}
 use Rattle.tape_spec.specs.Limits.{mostRecords}
-use Rattle.tape_spec.specs.Whole.{Record, heard, kindOf, Kind, known, unknown, kind, Parts, noMore, before, parts, taped}
+use Rattle.tape_spec.specs.Whole.{Record, heardOn, kindOf, Kind, known, unknown, kind, Parts, noMore, before, parts, taped}
 
-pub kind-known : (side : Side) → kind (kindOf side) ≡ known side
+pub kind-known : (line : Line) → kind (kindOf line) ≡ known line
 unfolding kind
 kind-known Point = refl
 kind-known Addressed = refl
@@ -29,14 +29,14 @@ pub parts-taped : (rs : List Record) (n : ℕ) (rest : List ℕ) → n + length 
     → parts n (taped rs ++ rest) ≡ joined rs (parts (n + length rs) rest)
 unfolding parts taped
 parts-taped [] n rest few = ap (λ (k : ℕ). parts k rest) (sym (add-zero n))
-parts-taped (heard side b ∷ rs) n rest few =
+parts-taped (heardOn line b ∷ rs) n rest few =
     let far : n + 1 + length rs ≡ n + suc (length rs) = omega arith in
-    rw (ne-eqb n mostRecords (λ e. absurd (omega arith)), kind-known side)
-    (ap (λ (p : Parts). before (known side) b p) (parts-taped rs (n + 1) rest (omega arith) ∙ ap (λ (k : ℕ). joined rs (parts k rest)) far))
+    rw (ne-eqb n mostRecords (λ e. absurd (omega arith)), kind-known line)
+    (ap (λ (p : Parts). before (known line) b p) (parts-taped rs (n + 1) rest (omega arith) ∙ ap (λ (k : ℕ). joined rs (parts k rest)) far))
 
 -- so no number in a listing wraps: a tape has no more whole records than it may hold
 before-few : (n b : ℕ) (x : Kind) (p : Parts) → n + 1 + length (p .records) ≤ mostRecords → n + length (before x b p .records) ≤ mostRecords
-before-few n b (known side) p few = omega arith
+before-few n b (known line) p few = omega arith
 before-few n b unknown p few = omega arith
 
 pub parts-few : (tape : List ℕ) (n : ℕ) → n ≤ mostRecords → n + length (parts n tape .records) ≤ mostRecords

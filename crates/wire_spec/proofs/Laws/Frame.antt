@@ -13,7 +13,7 @@ use Rattle.checks.specs.declared.kind.Check.{Check}
 use Rattle.checks.specs.Check.{checkOf, checkLength, withCheck}
 use Rattle.checks.proofs.Laws.Check.{length-withCheck}
 use Rattle.wire_spec.specs.Limits.{mostContent}
-use Rattle.wire_spec.specs.Writing.{refusing, imageWritten}
+use Rattle.wire_spec.specs.Writing.{notWritten, imageWritten}
 use Rattle.wire_spec.proofs.Laws.Writing.{asked-within, asked-over, asked-keeps}
 use Rattle.wire_spec.specs.Writing.{frameWritten}
 
@@ -46,7 +46,7 @@ frame-within check head «data» out within =
 
 -- and one over the limit is refused
 pub frame-over : (check : Check) (head «data» out : List ℕ) → mostContent < length head + length «data» + checkLength check
-    → frameWritten check head «data» out ≡ refusing TooLong out
+    → frameWritten check head «data» out ≡ notWritten TooLong out
 unfolding frameWritten
 frame-over check head «data» out over =
     asked-over (withCheck check (head ++ «data»)) out
@@ -54,6 +54,6 @@ frame-over check head «data» out over =
 
 -- a refused call leaves the buffer as before
 pub frame-keeps : (check : Check) (head «data» out : List ℕ)
-    → Keeps (frameWritten check head «data» out .answer .refusal) out (frameWritten check head «data» out .out)
+    → Keeps (frameWritten check head «data» out .tally .refusal) out (frameWritten check head «data» out .out)
 unfolding frameWritten
 frame-keeps check head «data» out = asked-keeps (withCheck check (head ++ «data»)) out

@@ -11,4 +11,4 @@ use Rattle.wire_spec.specs.Writing.{After, after}
 pub same-after : {r s : Counted} {o p : List ℕ} {t : After} → after r o ≡ t → after s p ≡ t → (r ≡ s) × (o ≡ p)
 same-after {r} {s} {o} {p} e f =
     let both : after r o ≡ after s p = same e f in
-    (same-answer (ap (λ (a : After). a .answer) e) (ap (λ (a : After). a .answer) f), ap (λ (a : After). a .out) both)
+    (same-answer (ap (λ (a : After). a .tally) e) (ap (λ (a : After). a .tally) f), ap (λ (a : After). a .out) both)

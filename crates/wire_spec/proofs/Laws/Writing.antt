@@ -15,7 +15,7 @@ use Rattle.ground.proofs.Laws.Laying.{laid-next, laid-front, set-behind}
 use Rattle.wire_spec.specs.Limits.{mostContent}
 use Rattle.wire_spec.specs.Stuffing.{stuffing}
 use Rattle.wire_spec.specs.Image.{start, stop, image, imageLength}
-use Rattle.wire_spec.specs.Writing.{lengthAsked, After, refusing, putting, imageWritten, imageAsked}
+use Rattle.wire_spec.specs.Writing.{lengthAsked, After, notWritten, putting, imageWritten, imageAsked}
 use Rattle.wire_spec.proofs.Laws.Image.{length-image, imageLength-stuffing}
 
 -- row 2 of the refusal table, of a length asked: when, and else it is the image's
@@ -40,7 +40,7 @@ image-laid content out h =
     ∙ laid-front out (start ∷ S ++ (stop ∷ []))
 
 -- what is left in the buffer where the image has no room, and where it has
-pub written-short : (content out : List ℕ) → length out < length (image content) → imageWritten content out ≡ refusing NoRoom out
+pub written-short : (content out : List ℕ) → length out < length (image content) → imageWritten content out ≡ notWritten NoRoom out
 unfolding imageWritten
 written-short content out short = rw (lt-ltb (length out) (length (image content)) short)
 
@@ -54,19 +54,19 @@ unfolding imageAsked
 asked-within content out within = rw (le-ltb mostContent (length content) within)
 
 -- and where it is over the limit it is refused
-pub asked-over : (content out : List ℕ) → mostContent < length content → imageAsked content out ≡ refusing TooLong out
+pub asked-over : (content out : List ℕ) → mostContent < length content → imageAsked content out ≡ notWritten TooLong out
 unfolding imageAsked
 asked-over content out over = rw (lt-ltb mostContent (length content) over)
 
 -- a refused call leaves the buffer as before
-pub written-keeps : (content out : List ℕ) → Keeps (imageWritten content out .answer .refusal) out (imageWritten content out .out)
+pub written-keeps : (content out : List ℕ) → Keeps (imageWritten content out .tally .refusal) out (imageWritten content out .out)
 unfolding imageWritten
 written-keeps content out =
-    cond-elim (λ (a : After). Keeps (a .answer .refusal) out (a .out)) (ltb (length out) (length (image content))) (λ short refused. refl)
+    cond-elim (λ (a : After). Keeps (a .tally .refusal) out (a .out)) (ltb (length out) (length (image content))) (λ short refused. refl)
     (λ fits refused. absurd (refused refl))
 
-pub asked-keeps : (content out : List ℕ) → Keeps (imageAsked content out .answer .refusal) out (imageAsked content out .out)
+pub asked-keeps : (content out : List ℕ) → Keeps (imageAsked content out .tally .refusal) out (imageAsked content out .out)
 unfolding imageAsked
 asked-keeps content out =
-    cond-elim (λ (a : After). Keeps (a .answer .refusal) out (a .out)) (ltb mostContent (length content)) (λ over refused. refl)
+    cond-elim (λ (a : After). Keeps (a .tally .refusal) out (a .out)) (ltb mostContent (length content)) (λ over refused. refl)
     (λ within. written-keeps content out)

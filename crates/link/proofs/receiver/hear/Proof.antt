@@ -14,7 +14,7 @@ use Rattle.link_spec.specs.declared.receiver.Turn.{Turn}
 use Rattle.link_spec.specs.declared.receiver.Receiver.{Receiver}
 use Rattle.link_spec.specs.Events.{verdict}
 use Rattle.link_spec.specs.Turning.{turn}
-use Rattle.link_spec.specs.Receiving.{being, outside, moved, outcome, answering, heard}
+use Rattle.link_spec.specs.Receiving.{receiverOf, outside, moved, outcome, saidOf, heard}
 use Rattle.link_spec.proofs.Laws.Turning.{Sound, turn-sound}
 use Rattle.link_spec.proofs.Laws.Receiving.{Going, runs-out, next-byte, breaks-off}
 use Rattle.link.specs.declared.receiver.Found.{Found}
@@ -22,11 +22,11 @@ use Rattle.link.proofs.receiver.hear.Statement.{statement}
 use Rattle.link.proofs.receiver.hear.Tie as tie
 
 abbrev Inv-loop : tie.InvT-loop
-Inv-loop piece line phase₀ count₀ content₀ taken₀ phase count content taken =
-    Going piece (being line phase₀ count₀ content₀) taken (being line phase count content)
+Inv-loop piece station phase₀ count₀ content₀ taken₀ phase count content taken =
+    Going piece (receiverOf station phase₀ count₀ content₀) taken (receiverOf station phase count content)
 
 abbrev μ-loop : tie.MeasureT-loop
-μ-loop piece line phase₀ count₀ content₀ taken₀ phase count content taken = length piece - taken
+μ-loop piece station phase₀ count₀ content₀ taken₀ phase count content taken = length piece - taken
 
 loop-holds : tie.Need-loop-holds Inv-loop μ-loop
 unfolding heard
@@ -34,11 +34,11 @@ loop-holds c =
     let sized = simp length-map at (c .before .before .good .0 .1 .1 .1 .1 .1 .0 .1 .0 .1) in
     record { part = zero-le; fit = record { on = refl; sized = sized; within = c .before .before .pre }; same = refl }
 
-told-requires : tie.Need-told-requires Inv-loop μ-loop
-told-requires c κs = search needs
+heard-with-requires : tie.Need-heard-with-requires Inv-loop μ-loop
+heard-with-requires c κs = search needs
 
 returns : tie.Need-returns Inv-loop μ-loop
-returns c = c .told .ensures ∙ runs-out (c .before .before .loop .inv) (omega arith)
+returns c = c .heard-with .ensures ∙ runs-out (c .before .before .loop .inv) (omega arith)
 
 shared-slice-read-at-byte : tie.Need-shared-slice-read-at-byte Inv-loop μ-loop
 shared-slice-read-at-byte c = omega arith
@@ -58,7 +58,7 @@ loop-less c = omega arith
 -- the turn that was found is that of the byte
 turn-is : (d : tie.After-at-byte Inv-loop μ-loop) {t : Turn} → d .at-byte .result ≡ t → let l = d .before .before .before in
     let a = l .before .before .before .args in
-    t ≡ turn (a .receiver .line) (l .loop .phase) (l .loop .count) (getD (a .piece .now) (l .loop .taken) 0)
+    t ≡ turn (a .receiver .station) (l .loop .phase) (l .loop .count) (getD (a .piece .now) (l .loop .taken) 0)
 turn-is d found = sym found ∙ d .at-byte .ensures
 
 loop-again : tie.Need-loop-again Inv-loop μ-loop
@@ -137,8 +137,8 @@ enum-known-turn-2 c = search needs
 outside-requires : tie.Need-outside-requires Inv-loop μ-loop
 outside-requires c κs = search needs
 
-told-requires-2 : tie.Need-told-requires-2 Inv-loop μ-loop
-told-requires-2 c κs = search needs
+heard-with-requires-2 : tie.Need-heard-with-requires-2 Inv-loop μ-loop
+heard-with-requires-2 c κs = search needs
 
 -- the two ways out of the loop: the frame ended, or was given up
 returns-2 : tie.Need-returns-2 Inv-loop μ-loop
@@ -147,10 +147,10 @@ returns-2 c =
     let m = c .before .before in
     let d = m .before in
     let l = d .before .before .before in
-    let on = answering (outside (l .before .before .before .args .receiver .line) (l .loop .content)) in
+    let on = saidOf (outside (l .before .before .before .args .receiver .station) (l .loop .content)) in
     let n = l .loop .taken + 1 in
-    c .told2 .ensures
-    ∙ ap (λ (r : Receiver). answering r (m .match .found .verdict) (m .match .found .taken)) (c .before .outside .ensures)
+    c .heard-with2 .ensures
+    ∙ ap (λ (r : Receiver). saidOf r (m .match .found .verdict) (m .match .found .taken)) (c .before .outside .ensures)
     ∙ ⊎-elim
     (λ w. ap (λ (f : Found). on (f .verdict) (f .taken)) (w .5)
     ∙ ap (λ (v : Verdict). on v n) (w .4 .ensures ∙ ap (λ (k : Check). verdict k (take (l .loop .count) (l .loop .content))) (w .2 .ensures))
@@ -166,7 +166,7 @@ hear-spec =
     Inv-loop
     μ-loop
     loop-holds
-    told-requires
+    heard-with-requires
     returns
     shared-slice-read-at-byte
     at-byte-requires
@@ -192,5 +192,5 @@ hear-spec =
     at-stop-requires
     enum-known-turn-2
     outside-requires
-    told-requires-2
+    heard-with-requires-2
     returns-2)

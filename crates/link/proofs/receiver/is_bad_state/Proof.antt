@@ -6,14 +6,14 @@ use borrow.Author.Needs.{needs}
 use Rattle.link.proofs.receiver.is_bad_state.Statement.{statement}
 use Rattle.link.proofs.receiver.is_bad_state.Tie as tie
 
-has-station-requires : tie.Need-has-station-requires
-has-station-requires c κs = search needs
+has-address-requires : tie.Need-has-address-requires
+has-address-requires c κs = search needs
 
 returns : tie.Need-returns
-returns c = rw (sym (c .before .before .has-station .ensures) ∙ c .before .if1 .taken, or-false)
+returns c = rw (sym (c .before .before .has-address .ensures) ∙ c .before .if1 .taken, or-false)
 
 returns-2 : tie.Need-returns-2
-returns-2 c = rw (sym (c .before .has-station .ensures) ∙ c .if1 .left, or-true)
+returns-2 c = rw (sym (c .before .has-address .ensures) ∙ c .if1 .left, or-true)
 
 pub is-bad-state-spec : {M : Type 1} → statement M
-is-bad-state-spec = tie.close (tie.spec has-station-requires returns returns-2)
+is-bad-state-spec = tie.close (tie.spec has-address-requires returns returns-2)

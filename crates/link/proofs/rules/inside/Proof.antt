@@ -18,8 +18,8 @@ enum-told c = search needs
 plain-requires : tie.Need-plain-requires
 plain-requires c κs = search needs
 
-enum-known-line : tie.Need-enum-known-line
-enum-known-line c = search needs
+enum-known-station : tie.Need-enum-known-station
+enum-known-station c = search needs
 
 plain-requires-2 : tie.Need-plain-requires-2
 plain-requires-2 c κs = search needs
@@ -28,7 +28,7 @@ returns-2 : tie.Need-returns-2
 unfolding contentByte inside
 returns-2 c =
     let d = c .before .before .before .before .before in
-    simp (ne-eqb _ _ (d .if1 .left), c .before .before .before .line .given .1, ne-eqb (d .before .args .count) 0 (λ e. omega arith))
+    simp (ne-eqb _ _ (d .if1 .left), c .before .before .before .station .given .1, ne-eqb (d .before .args .count) 0 (λ e. omega arith))
     (c .plain2 .ensures)
 
 takes-requires : tie.Need-takes-requires
@@ -43,7 +43,7 @@ returns-3 c =
     let d = c .before .before .before .before .before .before .before in
     simp (
       ne-eqb _ _ (d .if1 .left),
-      c .before .before .before .before .before .line .given .1,
+      c .before .before .before .before .before .station .given .1,
       eq-eqb (d .before .args .count) 0 (omega arith),
       sym (c .before .before .takes .ensures) ∙ c .before .if3 .taken,
     )
@@ -59,7 +59,7 @@ returns-5 c =
     let d = c .before .before .before .before .before .before in
     simp (
       ne-eqb _ _ (d .if1 .left),
-      c .before .before .before .before .line .given .1,
+      c .before .before .before .before .station .given .1,
       eq-eqb (d .before .args .count) 0 (omega arith),
       sym (c .before .takes .ensures) ∙ c .if3 .left,
     )
@@ -71,7 +71,7 @@ inside-spec =
     returns
     enum-told
     plain-requires
-    enum-known-line
+    enum-known-station
     plain-requires-2
     returns-2
     takes-requires

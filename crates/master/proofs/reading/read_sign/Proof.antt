@@ -20,14 +20,14 @@ shared-slice-read-reason c = search needs
 is-write-requires : tie.Need-is-write-requires
 is-write-requires c κs = search needs
 
-meant-requires : tie.Need-meant-requires
-meant-requires c κs = search needs
+says-requires : tie.Need-says-requires
+says-requires c κs = search needs
 
 returns-2 : tie.Need-returns-2
 unfolding signRead reasonRead
 returns-2 c =
     simp (
-      c .meant .ensures,
+      c .says .ensures,
       eq-eqb _ _ (c .before .before .before .before .before .if1 .left),
       c .before .before .before .if2 .taken,
       sym
@@ -51,8 +51,8 @@ returns-3 c =
 is-nack-requires : tie.Need-is-nack-requires
 is-nack-requires c κs = search needs
 
-meant-requires-2 : tie.Need-meant-requires-2
-meant-requires-2 c κs = search needs
+says-requires-2 : tie.Need-says-requires-2
+says-requires-2 c κs = search needs
 
 refused-requires-3 : tie.Need-refused-requires-3
 refused-requires-3 c κs = search needs
@@ -87,12 +87,12 @@ read-sign-spec =
     returns
     shared-slice-read-reason
     is-write-requires
-    meant-requires
+    says-requires
     returns-2
     refused-requires-2
     returns-3
     is-nack-requires
-    meant-requires-2
+    says-requires-2
     refused-requires-3
     returns-4
     returns-5)

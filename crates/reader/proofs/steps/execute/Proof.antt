@@ -29,8 +29,8 @@ slice-aggregate-put c =
 put-requires : tie.Need-put-requires
 put-requires c κs = search needs
 
-behind-requires : tie.Need-behind-requires
-behind-requires c κs = search needs
+after-command-requires : tie.Need-after-command-requires
+after-command-requires c κs = search needs
 
 sending-requires : tie.Need-sending-requires
 sending-requires c κs = search needs
@@ -48,7 +48,7 @@ returns c =
     let a = e .args in
     let put = c .before .before .before .before .put in
     execute-answers (a .reader) (a .header) (a .antenna .now) (a .store .now) (a .out .now) (a .identifier) (a .code) (a .«data» .now)
-    (a .command) (c .sending .ensures) (c .before .behind .ensures)
+    (a .command) (c .sending .ensures) (c .before .after-command .ensures)
     (put-onto _ (a .store .now) (put .ensures) (simp length-take (omega (arith, d .write-reply .ensures .1, e .pre .1))))
     (d .write-reply .ensures)
 
@@ -60,7 +60,7 @@ execute-spec =
     slice-reshare-prefix-put
     slice-aggregate-put
     put-requires
-    behind-requires
+    after-command-requires
     sending-requires
     same-length
     same-length-2

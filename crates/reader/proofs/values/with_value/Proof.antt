@@ -11,7 +11,7 @@ use Rattle.ground.specs.Laying.{Ended, put}
 use Rattle.ground.proofs.Laws.Laying.{put-whole}
 use Rattle.request_spec.specs.declared.parameter.Parameter.{Parameter}
 use Rattle.request_spec.specs.declared.parameter.Parameter.the-variants.{Settings, Cell}
-use Rattle.request_spec.specs.Parameters.{lengthOf, takes}
+use Rattle.request_spec.specs.Parameters.{lengthOf, isValueOf}
 use Rattle.request_spec.proofs.Laws.Parameters.{value-length}
 use Rattle.reader.proofs.values.with_value.Statement.{statement}
 use Rattle.reader.proofs.values.with_value.Tie as tie
@@ -47,7 +47,7 @@ returns : tie.Need-returns
 returns c = simp (c .before .enum-told .given .1)
 
 -- a value put into an array of its parameter's length is all that stands there
-value-put : {p : Parameter} {e : Ended} (q : Parameter) (value : List ℕ) → p ≡ q → takes p value ≡ true
+value-put : {p : Parameter} {e : Ended} (q : Parameter) (value : List ℕ) → p ≡ q → isValueOf p value ≡ true
     → e ≡ put value (replicate (lengthOf q) 0) 0
     → e .out ≡ value
 value-put q value told taken says =

@@ -6,35 +6,35 @@ use Rattle.request_spec.specs.Acceptance.{acceptance}
 use Rattle.request.proofs.command.accept.Statement.{statement}
 use Rattle.request.proofs.command.accept.Tie as tie
 
-bare-requires : tie.Need-bare-requires
-bare-requires c κs = search needs
+accept-bare-requires : tie.Need-accept-bare-requires
+accept-bare-requires c κs = search needs
 
-writing-requires : tie.Need-writing-requires
-writing-requires c κs = search needs
+accept-write-requires : tie.Need-accept-write-requires
+accept-write-requires c κs = search needs
 
-reading-requires : tie.Need-reading-requires
-reading-requires c κs = search needs
+accept-read-requires : tie.Need-accept-read-requires
+accept-read-requires c κs = search needs
 
-bare-requires-2 : tie.Need-bare-requires-2
-bare-requires-2 c κs = search needs
+accept-bare-requires-2 : tie.Need-accept-bare-requires-2
+accept-bare-requires-2 c κs = search needs
 
-bare-requires-3 : tie.Need-bare-requires-3
-bare-requires-3 c κs = search needs
+accept-bare-requires-3 : tie.Need-accept-bare-requires-3
+accept-bare-requires-3 c κs = search needs
 
-bare-requires-4 : tie.Need-bare-requires-4
-bare-requires-4 c κs = search needs
+accept-bare-requires-4 : tie.Need-accept-bare-requires-4
+accept-bare-requires-4 c κs = search needs
 
 returns : tie.Need-returns
 unfolding acceptance
-returns c = simp (c .before .match .keys1, c .bare .ensures)
+returns c = simp (c .before .match .keys1, c .accept-bare .ensures)
 
 returns-2 : tie.Need-returns-2
 unfolding acceptance
-returns-2 c = simp (c .before .match .keys2, c .writing .ensures)
+returns-2 c = simp (c .before .match .keys2, c .accept-write .ensures)
 
 returns-3 : tie.Need-returns-3
 unfolding acceptance
-returns-3 c = simp (c .before .match .keys3, c .reading .ensures)
+returns-3 c = simp (c .before .match .keys3, c .accept-read .ensures)
 
 returns-4 : tie.Need-returns-4
 unfolding acceptance
@@ -65,12 +65,12 @@ pub accept-spec : {M : Type 1} → statement M
 accept-spec =
     tie.close
     (tie.spec
-    bare-requires
-    writing-requires
-    reading-requires
-    bare-requires-2
-    bare-requires-3
-    bare-requires-4
+    accept-bare-requires
+    accept-write-requires
+    accept-read-requires
+    accept-bare-requires-2
+    accept-bare-requires-3
+    accept-bare-requires-4
     returns
     returns-2
     returns-3

@@ -2,7 +2,7 @@
 -- Assumes nothing.
 use mathlib.Core.Path.{sym, ap, _∙_}
 use borrow.Author.Needs.{needs}
-use Rattle.ground.specs.Refusals.{Answer}
+use Rattle.ground.specs.Refusals.{Tally}
 use Rattle.wire_spec.specs.Writing.{leaving}
 use Rattle.request_spec.specs.Acceptance.{isAccepted}
 use Rattle.request_spec.proofs.Laws.Acceptance.{judged-as}
@@ -39,7 +39,7 @@ returns c =
 returns-2 : tie.Need-returns-2
 returns-2 c =
     let a = c .before .before .before .before .before .before .args in
-    ap (λ (w : Answer). leaving w (a .out .now)) (c .refused .ensures)
+    ap (λ (w : Tally). leaving w (a .out .now)) (c .refused .ensures)
     ∙ sym (request-refused (a .identifier) (a .code) (a .«data» .now) (a .out .now)
     (ap isAccepted (judged-as (a .code) (a .«data» .now) (c .before .before .before .accept .ensures) (c .before .enum-told2 .given .1))))
 

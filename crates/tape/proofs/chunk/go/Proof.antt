@@ -15,20 +15,20 @@ use Rattle.tape_spec.specs.declared.tape.Receivers.{Receivers}
 use Rattle.tape_spec.specs.declared.tape.Next.{Next}
 use Rattle.tape_spec.specs.declared.tape.Next.the-variants.{Kind, Body}
 use Rattle.tape_spec.specs.declared.tape.Tape.{Tape}
-use Rattle.tape_spec.specs.Whole.{on, turned}
-use Rattle.tape_spec.specs.Taping.{being, isOver, going, Told, writing}
-use Rattle.tape.specs.Running.{Heard, left}
+use Rattle.tape_spec.specs.Whole.{receiverOn, withReceiver}
+use Rattle.tape_spec.specs.Taping.{tapeOf, isOver, going, ListedOut, textWritten}
+use Rattle.tape.specs.Running.{RunHeard, left}
 use Rattle.tape.proofs.Laws.Chunks.{over, Goes, none-taken, at-end, out-of-room, at-last, next-kind, permitted, on-good, next-run, run-some}
 use Rattle.tape.proofs.chunk.go.Statement.{statement}
 use Rattle.tape.proofs.chunk.go.Tie as tie
 
 -- what the whole chunk gives
-abbrev asked : List ℕ → Tape → List ℕ → Told
-asked chunk t out = writing (going (length out) t chunk) out
+abbrev asked : List ℕ → Tape → List ℕ → ListedOut
+asked chunk t out = textWritten (going (length out) t chunk) out
 
 abbrev Inv-loop : tie.InvT-loop
 Inv-loop chunk out₀ records₀ next₀ receivers₀ piece₀ taken₀ written₀ out records next receivers piece taken written =
-    Goes chunk (asked chunk (being records₀ next₀ receivers₀) out₀) out (being records next receivers) taken written
+    Goes chunk (asked chunk (tapeOf records₀ next₀ receivers₀) out₀) out (tapeOf records next receivers) taken written
     × (length out ≡ length out₀) × (length piece ≡ 128)
 
 abbrev μ-loop : tie.MeasureT-loop
@@ -77,7 +77,7 @@ loop-again c =
     let l = test .before .before .before .before .loop in
     let a = test .before .before .before .before .before .before .before .before .args in
     let goes : Next → ℕ → Type 0 = λ x n. Goes (a .chunk .now) (asked (a .chunk .now) (a .tape) (a .out .now)) (l .out)
-    (being (l .records) x (l .receivers)) n (l .written) in (
+    (tapeOf (l .records) x (l .receivers)) n (l .written) in (
       subst⁻¹ (λ (x : Next). goes x (l .taken + 1)) (c .after-kind .ensures)
           (next-kind _ _ (roomy test) (omega arith)
           (subst (λ (x : Next). goes x (l .taken)) (c .before .before .enum-told .given .1) (l .inv .0))),
@@ -111,15 +111,15 @@ entry o = turn o .before .before .before .before
 abbrev whole : tie.After-on Inv-loop μ-loop → List ℕ
 whole o = entry o .args .chunk .now
 
-abbrev all : tie.After-on Inv-loop μ-loop → Told
+abbrev all : tie.After-on Inv-loop μ-loop → ListedOut
 all o = asked (whole o) (entry o .args .tape) (entry o .args .out .now)
 
 -- a body is next
 body-next : (o : tie.After-on Inv-loop μ-loop) → let l = turn o .loop in
-    Goes (whole o) (all o) (l .out) (being (l .records) (Body (o .before .before .next .given .0 .0)) (l .receivers)) (l .taken) (l .written)
+    Goes (whole o) (all o) (l .out) (tapeOf (l .records) (Body (o .before .before .next .given .0 .0)) (l .receivers)) (l .taken) (l .written)
 body-next o =
     let l = turn o .loop in
-    subst (λ (x : Next). Goes (whole o) (all o) (l .out) (being (l .records) x (l .receivers)) (l .taken) (l .written))
+    subst (λ (x : Next). Goes (whole o) (all o) (l .out) (tapeOf (l .records) x (l .receivers)) (l .taken) (l .written))
     (o .before .before .next .given .1) (l .inv .0)
 
 slice-aggregate-run : tie.Need-slice-aggregate-run Inv-loop μ-loop
@@ -132,32 +132,32 @@ run-requires c κs =
     let goes = body-next o in
     let some : 0 < length (drop (l .taken) (whole o)) = simp length-drop (omega arith) in
     let there : 0 < length (take (length (whole o) - l .taken) (drop (l .taken) (whole o))) = rw (take-rest (whole o) (l .taken)) some in
-    (rw (o .on .ensures) (on-good _ _ _ goes), (permitted _ _ goes, (there, (omega (arith, l .inv .2), goes .ends))))
+    (rw (o .receiverOn .ensures) (on-good _ _ _ goes), (permitted _ _ goes, (there, (omega (arith, l .inv .2), goes .ends))))
 
 -- what was heard, of the receiver that the tape holds and of all that is left
 heard : (c : tie.After-run Inv-loop μ-loop)
     → let o = c .before .before .before .before in
     let l = turn o .loop in
-    let side = o .before .before .next .given .0 .0 in
-    Heard side (on side (l .receivers)) (l .records) (drop (l .taken) (whole o)) (l .out) (l .written)
+    let line = o .before .before .next .given .0 .0 in
+    RunHeard line (receiverOn line (l .receivers)) (l .records) (drop (l .taken) (whole o)) (l .out) (l .written)
     (left (c .run .result) (c .run .last .1 .1 .1 .1 .1 .0))
 heard c =
     let o = c .before .before .before .before in
     let l = turn o .loop in
-    let side = o .before .before .next .given .0 .0 in
+    let line = o .before .before .next .given .0 .0 in
     let after = left (c .run .result) (c .run .last .1 .1 .1 .1 .1 .0) in
     let part = take (length (whole o) - l .taken) (drop (l .taken) (whole o)) in
-    subst (λ (x : List ℕ). Heard side (on side (l .receivers)) (l .records) x (l .out) (l .written) after)
+    subst (λ (x : List ℕ). RunHeard line (receiverOn line (l .receivers)) (l .records) x (l .out) (l .written) after)
     (take-rest (whole o) (l .taken))
-    (subst (λ (s : Receiver). Heard side s (l .records) part (l .out) (l .written) after) (o .on .ensures) (c .run .ensures))
+    (subst (λ (s : Receiver). RunHeard line s (l .records) part (l .out) (l .written) after) (o .receiverOn .ensures) (c .run .ensures))
 
 -- behind it a kind is next again
 kind-next : (c : tie.After-run Inv-loop μ-loop)
     → let o = c .before .before .before .before in
     let l = turn o .loop in
-    let side = o .before .before .next .given .0 .0 in
+    let line = o .before .before .next .given .0 .0 in
     let r = c .run .result in
-    Goes (whole o) (all o) (c .run .last .1 .1 .1 .1 .1 .0) (being (l .records + r .count) Kind (turned side (r .receiver) (l .receivers)))
+    Goes (whole o) (all o) (c .run .last .1 .1 .1 .1 .1 .0) (tapeOf (l .records + r .count) Kind (withReceiver line (r .receiver) (l .receivers)))
     (l .taken + (2 * r .count - 1)) (r .end)
 kind-next c =
     let o = c .before .before .before .before in
@@ -177,8 +177,8 @@ takes c =
       omega (arith, entry o .good),
     )
 
-turned-requires : tie.Need-turned-requires Inv-loop μ-loop
-turned-requires c κs = search needs
+with-receiver-requires : tie.Need-with-receiver-requires Inv-loop μ-loop
+with-receiver-requires c κs = search needs
 
 cast-records : tie.Need-cast-records Inv-loop μ-loop
 cast-records c = omega (arith, takes (c .before .before .before .before .before))
@@ -204,8 +204,8 @@ loop-again-2 c =
     let o = r .before .before .before .before in
     let l = turn o .loop in
     let q = r .run .result in (
-      subst⁻¹ (λ (x : Receivers). Goes (whole o) (all o) (r .run .last .1 .1 .1 .1 .1 .0) (being (l .records + q .count) Kind x)
-          (l .taken + (2 * q .count - 1)) (q .end)) (c .before .before .turned .ensures) (kind-next r),
+      subst⁻¹ (λ (x : Receivers). Goes (whole o) (all o) (r .run .last .1 .1 .1 .1 .1 .0) (tapeOf (l .records + q .count) Kind x)
+          (l .taken + (2 * q .count - 1)) (q .end)) (c .before .before .withReceiver .ensures) (kind-next r),
       omega (arith, r .run .kept, l .inv .1),
       omega (arith, r .run .kept, l .inv .2),
     )
@@ -255,7 +255,7 @@ go-spec =
     part-rest-end
     slice-aggregate-run
     run-requires
-    turned-requires
+    with-receiver-requires
     cast-records
     add-records
     mul-taken

@@ -12,7 +12,7 @@ use Rattle.ground.proofs.Laws.Laying.{length-laid, last, then, puts-placed, tak
 use Rattle.text.specs.Ascii.{ascii}
 use Rattle.text.specs.Decimal.{decimal}
 use Rattle.tape_spec.specs.Limits.{mostLast}
-use Rattle.tape_spec.specs.Rows.{word, lastLine}
+use Rattle.tape_spec.specs.Rows.{word, lastRow}
 use Rattle.tape_spec.proofs.Laws.Rows.{last-within}
 use Rattle.tape.proofs.ends.write_ending.Statement.{statement}
 use Rattle.tape.proofs.ends.write_ending.Tie as tie
@@ -48,14 +48,14 @@ put-requires-2 : tie.Need-put-requires-2
 put-requires-2 c κs = search needs
 
 -- the line that was asked for
-abbrev asked : tie.After-line6 → List ℕ
+abbrev asked : tie.After-row6 → List ℕ
 asked c =
     let a = c .before .before .before .before .before .before .before .before .before .before .before .before .before .before .args in
-    lastLine (a .ending) (a .records)
+    lastRow (a .ending) (a .records)
 
 -- it was put to the front of its places
-lies : (c : tie.After-line6) → ended (c .before .put2 .result) (c .before .put2 .last .1 .0) ≡ placed (asked c) (replicate mostLast 0) 0
-unfolding lastLine ascii
+lies : (c : tie.After-row6) → ended (c .before .put2 .result) (c .before .put2 .last .1 .0) ≡ placed (asked c) (replicate mostLast 0) 0
+unfolding lastRow ascii
 lies c =
     let d = c .before .before .before .before .before in
     let p = d .before .before .before in
@@ -69,26 +69,26 @@ lies c =
     zero-le
     (last-within (a .ending) (a .records) (omega (arith, w .before .before .fits)))
 
-length-line : (c : tie.After-line6) → length (asked c) ≤ mostLast
-length-line c =
+length-row : (c : tie.After-row6) → length (asked c) ≤ mostLast
+length-row c =
     let e = c .before .before .before .before .before .before .before .before .before .before .before .before .before .before in
     last-within (e .args .ending) (e .args .records) (omega (arith, e .fits))
 
-ends : (c : tie.After-line6) → c .before .put2 .result .end ≤ length (c .before .put2 .last .1 .0)
+ends : (c : tie.After-row6) → c .before .put2 .result .end ≤ length (c .before .put2 .last .1 .0)
 ends c =
     omega (
       arith,
       ap (λ (d : Ended). d .end) (lies c),
       ap (λ (d : Ended). length (d .out)) (lies c),
-      length-laid (replicate mostLast 0) 0 (asked c) (omega (arith, length-line c)),
-      length-line c,
+      length-laid (replicate mostLast 0) 0 (asked c) (omega (arith, length-row c)),
+      length-row c,
     )
 
-text : (c : tie.After-line6) → take (c .before .put2 .result .end) (c .before .put2 .last .1 .0) ≡ asked c
+text : (c : tie.After-row6) → take (c .before .put2 .result .end) (c .before .put2 .last .1 .0) ≡ asked c
 text c = ap (λ (d : Ended). take (d .end) (d .out)) (lies c) ∙ take-placed (asked c) (replicate mostLast 0)
 
-array-share-prefix-line : tie.Need-array-share-prefix-line
-array-share-prefix-line c = ends c
+array-share-prefix-row : tie.Need-array-share-prefix-row
+array-share-prefix-row c = ends c
 
 slice-aggregate-put-5 : tie.Need-slice-aggregate-put-5
 slice-aggregate-put-5 c = sym (length-take-le _ _ (ends (c .before)))
@@ -119,7 +119,7 @@ write-ending-spec =
     slice-aggregate-put-3
     slice-aggregate-put-4
     put-requires-2
-    array-share-prefix-line
+    array-share-prefix-row
     slice-aggregate-put-5
     put-requires-3
     same-length

@@ -2,7 +2,7 @@
 -- Assumes nothing.
 use borrow.Author.Needs.{needs}
 use Rattle.text.specs.Ascii.{ascii}
-use Rattle.tape_spec.specs.Rows.{headerLine}
+use Rattle.tape_spec.specs.Rows.{headerRow}
 use Rattle.tape.proofs.ends.write_header.Statement.{statement}
 use Rattle.tape.proofs.ends.write_header.Tie as tie
 
@@ -16,7 +16,7 @@ same-length : tie.Need-same-length
 same-length c = search needs
 
 returns : tie.Need-returns
-unfolding ascii headerLine
+unfolding ascii headerRow
 returns c = c .before .before .put .ensures
 
 pub write-header-spec : {M : Type 1} → statement M

@@ -4,7 +4,7 @@ use mathlib.Core.Path.{ap, _∙_}
 use borrow.Author.Needs.{needs}
 use Rattle.ground.specs.Laying.{put}
 use Rattle.tape_spec.specs.declared.tape.Ending.{Ending}
-use Rattle.tape_spec.specs.Rows.{lastLine}
+use Rattle.tape_spec.specs.Rows.{lastRow}
 use Rattle.tape.proofs.ends.write_last.Statement.{statement}
 use Rattle.tape.proofs.ends.write_last.Tie as tie
 
@@ -22,7 +22,7 @@ returns c =
     let e = c .before .before .before .before in
     let a = e .before .before .args in
     c .before .before .write-ending .ensures
-    ∙ ap (λ (x : Ending). put (lastLine x (a .tape .records)) (a .out .now) 0) (e .ending .ensures)
+    ∙ ap (λ (x : Ending). put (lastRow x (a .tape .records)) (a .out .now) 0) (e .ending .ensures)
 
 pub write-last-spec : {M : Type 1} → statement M
 write-last-spec = tie.close (tie.spec ending-requires write-ending-requires same-length returns)

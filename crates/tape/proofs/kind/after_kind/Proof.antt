@@ -2,24 +2,24 @@
 -- Assumes nothing.
 use borrow.Author.Tests.{eq-eqb, ne-eqb}
 use Rattle.tape_spec.specs.Whole.{kind}
-use Rattle.tape_spec.specs.Taping.{behindKind}
+use Rattle.tape_spec.specs.Taping.{afterKind}
 use Rattle.tape.proofs.kind.after_kind.Statement.{statement}
 use Rattle.tape.proofs.kind.after_kind.Tie as tie
 
 returns : tie.Need-returns
-unfolding behindKind
+unfolding afterKind
 returns c = simp (eq-eqb _ _ (c .if1 .taken))
 
 returns-2 : tie.Need-returns-2
-unfolding behindKind kind
+unfolding afterKind kind
 returns-2 c = simp (ne-eqb _ _ (c .before .if1 .left), c .match .keys1)
 
 returns-3 : tie.Need-returns-3
-unfolding behindKind kind
+unfolding afterKind kind
 returns-3 c = simp (ne-eqb _ _ (c .before .if1 .left), c .match .keys2)
 
 returns-4 : tie.Need-returns-4
-unfolding behindKind kind
+unfolding afterKind kind
 returns-4 c =
     simp (ne-eqb _ _ (c .before .if1 .left), ne-eqb _ _ (c .match .rest .0 .1), ne-eqb _ _ (c .match .rest .1))
 

@@ -18,9 +18,9 @@ use Rattle.link_spec.specs.declared.event.Event.the-variants.{None, Frame, Chec
 use Rattle.link_spec.specs.Events.{named, happened}
 use Rattle.link_spec.specs.Receiving.{saying}
 use Rattle.link_spec.proofs.event.Event as event
-use Rattle.tape_spec.specs.declared.tape.Side.{Side}
-use Rattle.tape_spec.specs.Rows.{line, nameOf, eventLine, carried}
-use Rattle.tape_spec.proofs.Laws.Rows.{no-line, frame-line}
+use Rattle.tape_spec.specs.declared.tape.Line.{Line}
+use Rattle.tape_spec.specs.Rows.{row, nameOf, eventRow, carried}
+use Rattle.tape_spec.proofs.Laws.Rows.{no-row, frame-row}
 use Rattle.tape.proofs.rows.put_heard.Statement.{statement}
 use Rattle.tape.proofs.rows.put_heard.Tie as tie
 
@@ -35,16 +35,16 @@ late k (inr (inr (inl e))) = omega arith
 late k (inr (inr (inr (inl e)))) = omega arith
 late k (inr (inr (inr (inr e)))) = omega arith
 
-others : (n : ℕ) (side : Side) (e : Event) (content : List ℕ) → Other (tagOf event.the-type e)
-    → line n side (nameOf (named e)) [] ≡ eventLine n side (named e) content
-unfolding nameOf eventLine
-others n side None content h = absurd (omega (arith, late 0 h))
-others n side Frame content h = absurd (omega (arith, late 1 h))
-others n side Check content h = refl
-others n side Short content h = refl
-others n side Long content h = refl
-others n side Pair content h = refl
-others n side Addr content h = refl
+others : (n : ℕ) (line : Line) (e : Event) (content : List ℕ) → Other (tagOf event.the-type e)
+    → row n line (nameOf (named e)) [] ≡ eventRow n line (named e) content
+unfolding nameOf eventRow
+others n line None content h = absurd (omega (arith, late 0 h))
+others n line Frame content h = absurd (omega (arith, late 1 h))
+others n line Check content h = refl
+others n line Short content h = refl
+others n line Long content h = refl
+others n line Pair content h = refl
+others n line Addr content h = refl
 
 enum-told : tie.Need-enum-told
 enum-told c = search needs
@@ -58,11 +58,11 @@ array-share-prefix-content c =
     let n = simp length-map at (e .good .1 .1 .0 .1 .1 .1 .1 .1 .0 .1 .0 .1) in
     omega (arith, e .pre)
 
-slice-aggregate-put-line : tie.Need-slice-aggregate-put-line
-slice-aggregate-put-line c = sym (length-take-le _ _ (array-share-prefix-content (c .before)))
+slice-aggregate-put-row : tie.Need-slice-aggregate-put-row
+slice-aggregate-put-row c = sym (length-take-le _ _ (array-share-prefix-content (c .before)))
 
-put-line-requires : tie.Need-put-line-requires
-put-line-requires c κs =
+put-row-requires : tie.Need-put-row-requires
+put-row-requires c κs =
     let e = c .before .before .before .before .before .before in
     let h = e .args .heard in
     (omega (arith, e .pre, length-take (h .length) (h .content)), omega (arith, e .pre))
@@ -70,18 +70,18 @@ put-line-requires c κs =
 array-share-prefix-content-2 : tie.Need-array-share-prefix-content-2
 array-share-prefix-content-2 c = zero-le
 
-slice-aggregate-put-line-2 : tie.Need-slice-aggregate-put-line-2
-slice-aggregate-put-line-2 c = refl
+slice-aggregate-put-row-2 : tie.Need-slice-aggregate-put-row-2
+slice-aggregate-put-row-2 c = refl
 
-put-line-requires-2 : tie.Need-put-line-requires-2
-put-line-requires-2 c κs = search needs
+put-row-requires-2 : tie.Need-put-row-requires-2
+put-row-requires-2 c κs = search needs
 
 returns : tie.Need-returns
 returns c =
     let a = c .before .before .before .before .args in
     let quiet = ap (λ (e : Event). happened (named e)) (c .enum-told .given .1) in
     sym (placed-nil (a .out .now) (a .at))
-    ∙ ap (λ (l : List ℕ). placed l (a .out .now) (a .at)) (sym (no-line (a .number) (a .side) (saying (a .heard)) quiet))
+    ∙ ap (λ (l : List ℕ). placed l (a .out .now) (a .at)) (sym (no-row (a .number) (a .line) (saying (a .heard)) quiet))
 
 same-length : tie.Need-same-length
 same-length c = search needs
@@ -91,11 +91,11 @@ returns-2 c =
     let a = c .before .before .before .before .before .before .before .before .before .args in
     let content = carried (saying (a .heard)) in
     let frame = c .before .before .before .before .before .enum-told2 .given .1 in
-    c .before .before .put-line .ensures
+    c .before .before .put-row .ensures
     ∙ ap (λ (l : List ℕ). placed l (a .out .now) (a .at))
-    (ap (λ (e : Event). line (a .number) (a .side) (nameOf (named e)) content) frame
-    ∙ frame-line (a .number) (a .side) content
-    ∙ ap (λ (e : Event). eventLine (a .number) (a .side) (named e) content) (sym frame))
+    (ap (λ (e : Event). row (a .number) (a .line) (nameOf (named e)) content) frame
+    ∙ frame-row (a .number) (a .line) content
+    ∙ ap (λ (e : Event). eventRow (a .number) (a .line) (named e) content) (sym frame))
 
 same-length-2 : tie.Need-same-length-2
 same-length-2 c = search needs
@@ -104,9 +104,9 @@ returns-3 : tie.Need-returns-3
 returns-3 c =
     let m = c .before .before .before .before .before in
     let a = m .before .before .before .args in
-    c .before .before .put-line2 .ensures
+    c .before .before .put-row2 .ensures
     ∙ ap (λ (l : List ℕ). placed l (a .out .now) (a .at))
-    (others (a .number) (a .side) (a .heard .event) (carried (saying (a .heard))) (m .match .keys3))
+    (others (a .number) (a .line) (a .heard .event) (carried (saying (a .heard))) (m .match .keys3))
 
 pub put-heard-spec : {M : Type 1} → statement M
 put-heard-spec =
@@ -115,11 +115,11 @@ put-heard-spec =
     enum-told
     enum-told-2
     array-share-prefix-content
-    slice-aggregate-put-line
-    put-line-requires
+    slice-aggregate-put-row
+    put-row-requires
     array-share-prefix-content-2
-    slice-aggregate-put-line-2
-    put-line-requires-2
+    slice-aggregate-put-row-2
+    put-row-requires-2
     returns
     same-length
     returns-2

@@ -12,19 +12,19 @@ use Rattle.wire_spec.specs.Limits.{mostContent}
 use Rattle.link_spec.specs.Receiving.{Said, saying, received}
 use Rattle.link_spec.proofs.Laws.Receiving.{length-within}
 use Rattle.tape_spec.specs.Limits.{leastRoom, mostRecords}
-use Rattle.tape_spec.specs.Rows.{brought}
-use Rattle.tape.specs.Running.{leaving, running}
+use Rattle.tape_spec.specs.Rows.{heardRow}
+use Rattle.tape.specs.Running.{runLeft, running}
 use Rattle.tape.proofs.Laws.Hearing.{Goes, leavingBehind, out-of-room, out-of-bodies, takes-some, takes-most, next-call, none-before}
 use Rattle.tape.proofs.run.hear.Statement.{statement}
 use Rattle.tape.proofs.run.hear.Tie as tie
 
 abbrev Inv-loop : tie.InvT-loop
-Inv-loop side records bodies out₀ at receiver₀ count₀ end₀ out receiver count end =
-    Goes side records bodies (leaving (running (length out₀ - at) side records receiver₀ bodies) out₀ at) out receiver count end
+Inv-loop line records bodies out₀ at receiver₀ count₀ end₀ out receiver count end =
+    Goes line records bodies (runLeft (running (length out₀ - at) line records receiver₀ bodies) out₀ at) out receiver count end
     × (length out ≡ length out₀)
 
 abbrev μ-loop : tie.MeasureT-loop
-μ-loop side records bodies out₀ at receiver₀ count₀ end₀ out receiver count end = length bodies - count
+μ-loop line records bodies out₀ at receiver₀ count₀ end₀ out receiver count end = length bodies - count
 
 loop-holds : tie.Need-loop-holds Inv-loop μ-loop
 loop-holds c =
@@ -34,10 +34,10 @@ loop-holds c =
         good = c .before .before .pre .0;
         ends = omega arith;
         same =
-            ap (λ (n : ℕ). leavingBehind 0 (running (length (a .out .now) - a .at) (a .side) n (a .receiver) (a .bodies .now)) (a .out .now)
+            ap (λ (n : ℕ). leavingBehind 0 (running (length (a .out .now) - a .at) (a .line) n (a .receiver) (a .bodies .now)) (a .out .now)
             (a .at))
             (add-zero (a .records))
-            ∙ none-before (running (length (a .out .now) - a .at) (a .side) (a .records) (a .receiver) (a .bodies .now)) (a .out .now)
+            ∙ none-before (running (length (a .out .now) - a .at) (a .line) (a .records) (a .receiver) (a .bodies .now)) (a .out .now)
             (a .at);
       },
       refl,
@@ -121,9 +121,9 @@ loop-again c =
     let number : a .records + (l .count + r .taken - 1) ≡ a .records + l .count + (said .taken - 1) =
     omega (arith, takes d, ap (λ (s : Said). s .taken) (says d)) in
     let puts = p .ensures
-    ∙ ap₂ (λ (n : ℕ) (s : Said). placed (brought n (a .side) s) (l .out) (l .end)) number (says d) in (
-      subst⁻¹ (λ (s : Said). Goes (a .side) (a .records) (a .bodies .now)
-          (leaving (running (length (a .out .now) - a .at) (a .side) (a .records) (a .receiver) (a .bodies .now)) (a .out .now) (a .at))
+    ∙ ap₂ (λ (n : ℕ) (s : Said). placed (heardRow n (a .line) s) (l .out) (l .end)) number (says d) in (
+      subst⁻¹ (λ (s : Said). Goes (a .line) (a .records) (a .bodies .now)
+          (runLeft (running (length (a .out .now) - a .at) (a .line) (a .records) (a .receiver) (a .bodies .now)) (a .out .now) (a .at))
           (p .last .1 .1 .1 .0) (s .receiver) (l .count + s .taken) (p .result .end)) (says d)
           (next-call _ _ _ _ (l .inv .0) (takes d .3) (fits d) (p .result) (p .last .1 .1 .1 .0) puts),
       omega (arith, p .kept, l .inv .1),

@@ -7,18 +7,18 @@ use Prim.Native.Nat.{ℕ}
 use borrow.Author.Needs.{needs}
 use Rattle.ground.proofs.Laws.Lists.{take-rest}
 use Rattle.request_spec.specs.declared.command.Command.{Command}
-use Rattle.request_spec.specs.Parameters.{takes}
-use Rattle.request_spec.specs.Acceptance.{Carries}
+use Rattle.request_spec.specs.Parameters.{isValueOf}
+use Rattle.request_spec.specs.Acceptance.{FitsCommand}
 use Rattle.reader_spec.specs.Parameters.{withValue}
-use Rattle.reader.proofs.values.behind.Statement.{statement}
-use Rattle.reader.proofs.values.behind.Tie as tie
+use Rattle.reader.proofs.values.after_command.Statement.{statement}
+use Rattle.reader.proofs.values.after_command.Tie as tie
 
 enum-known-command : tie.Need-enum-known-command
 enum-known-command c = search needs
 
 sub-with-value : tie.Need-sub-with-value
 sub-with-value c =
-    subst (λ (k : Command). Carries k (c .before .before .before .before .args .«data» .now)) (c .before .command .given .1)
+    subst (λ (k : Command). FitsCommand k (c .before .before .before .before .args .«data» .now)) (c .before .command .given .1)
     (c .before .before .before .before .pre) .0
 
 part-with-value-start : tie.Need-part-with-value-start
@@ -31,8 +31,8 @@ with-value-requires : tie.Need-with-value-requires
 with-value-requires c κs =
     let «data» = c .before .before .before .before .before .args .«data» .now in
     let known = c .before .before .command .given in
-    subst⁻¹ (λ (l : List ℕ). takes (known .0 .0) l ≡ true) (take-rest «data» 1)
-    (subst (λ (k : Command). Carries k «data») (known .1) (c .before .before .before .before .before .pre) .1)
+    subst⁻¹ (λ (l : List ℕ). isValueOf (known .0 .0) l ≡ true) (take-rest «data» 1)
+    (subst (λ (k : Command). FitsCommand k «data») (known .1) (c .before .before .before .before .before .pre) .1)
 
 enum-told : tie.Need-enum-told
 enum-told c = search needs
@@ -58,8 +58,8 @@ returns-3 c = simp (c .enum-told2 .given .1)
 returns-4 : tie.Need-returns-4
 returns-4 c = simp (c .enum-told3 .given .1)
 
-pub behind-spec : {M : Type 1} → statement M
-behind-spec =
+pub after-command-spec : {M : Type 1} → statement M
+after-command-spec =
     tie.close
     (tie.spec
     enum-known-command

@@ -13,10 +13,10 @@ use Rattle.link_spec.specs.Events.{named}
 use Rattle.text.specs.Ascii.{ascii}
 use Rattle.text.specs.Decimal.{decimal}
 use Rattle.text.specs.Hex.{pairs}
-use Rattle.tape_spec.specs.Rows.{letter, line, nameOf}
-use Rattle.tape_spec.proofs.Laws.Rows.{length-name, line-within}
-use Rattle.tape.proofs.rows.put_line.Statement.{statement}
-use Rattle.tape.proofs.rows.put_line.Tie as tie
+use Rattle.tape_spec.specs.Rows.{letter, row, nameOf}
+use Rattle.tape_spec.proofs.Laws.Rows.{length-name, row-within}
+use Rattle.tape.proofs.rows.put_row.Statement.{statement}
+use Rattle.tape.proofs.rows.put_row.Tie as tie
 
 put-decimal-requires : tie.Need-put-decimal-requires
 put-decimal-requires c κs = search needs
@@ -59,7 +59,7 @@ same-length c =
     omega (arith, p .put-pairs .kept, n .put2 .kept, l .put .kept, l .before .before .before .before .before .before .put-decimal .kept)
 
 returns : tie.Need-returns
-unfolding ascii line
+unfolding ascii row
 returns c =
     let p = c .before .before .before .before .before .before .before in
     let n = p .before .before .before .before in
@@ -72,19 +72,19 @@ returns c =
     let name = nameOf (named (a .event)) in
     puts-placed
     (then (decimal (a .number)) (d .put-decimal .result) (d .put-decimal .last .1 .0) (d .put-decimal .ensures)
-    (then (letter (a .side)) (l .put .result) (l .put .last .1 .0)
+    (then (letter (a .line)) (l .put .result) (l .put .last .1 .0)
     (l .put .ensures ∙ ap (λ (w : List ℕ). put w (d .put-decimal .last .1 .0) (d .put-decimal .result .end)) (t .letter .ensures))
     (then name (n .put2 .result) (n .put2 .last .1 .0)
     (n .put2 .ensures ∙ ap (λ (w : List ℕ). put w (l .put .last .1 .0) (l .put .result .end)) (m .name .ensures .letters))
     (then (pairs (a .content .now)) (p .put-pairs .result) (p .put-pairs .last .1 .0) (p .put-pairs .ensures)
     (last (c .before .before .put3 .ensures))))))
     (omega (arith, e .pre))
-    (le-trans (line-within (a .number) (a .side) name (a .content .now) (omega (arith, e .fits)) (length-name (named (a .event)))
+    (le-trans (row-within (a .number) (a .line) name (a .content .now) (omega (arith, e .fits)) (length-name (named (a .event)))
     (omega (arith, e .pre)))
     (omega (arith, e .pre)))
 
-pub put-line-spec : {M : Type 1} → statement M
-put-line-spec =
+pub put-row-spec : {M : Type 1} → statement M
+put-row-spec =
     tie.close
     (tie.spec
     put-decimal-requires

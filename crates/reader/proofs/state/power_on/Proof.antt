@@ -1,10 +1,10 @@
--- `record::power_on` meets its contract.
+-- `state::power_on` meets its contract.
 -- Assumes nothing.
 use mathlib.Core.Path.{sym, _∙_}
 use borrow.Author.Needs.{needs}
 use Rattle.reader_spec.specs.Answering.{poweredOn}
-use Rattle.reader.proofs.record.power_on.Statement.{statement}
-use Rattle.reader.proofs.record.power_on.Tie as tie
+use Rattle.reader.proofs.state.power_on.Statement.{statement}
+use Rattle.reader.proofs.state.power_on.Tie as tie
 
 is-bad-requires : tie.Need-is-bad-requires
 is-bad-requires c κs = search needs

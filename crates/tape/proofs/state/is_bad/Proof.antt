@@ -1,9 +1,9 @@
--- `record::is_bad` meets its contract.
+-- `state::is_bad` meets its contract.
 -- Assumes nothing.
 use mathlib.Core.Path.{sym, _∙_}
 use borrow.Author.Needs.{needs}
-use Rattle.tape.proofs.record.is_bad.Statement.{statement}
-use Rattle.tape.proofs.record.is_bad.Tie as tie
+use Rattle.tape.proofs.state.is_bad.Statement.{statement}
+use Rattle.tape.proofs.state.is_bad.Tie as tie
 
 has-bad-requires : tie.Need-has-bad-requires
 has-bad-requires c κs = search needs

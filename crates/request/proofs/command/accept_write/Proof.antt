@@ -3,10 +3,10 @@
 use mathlib.Core.Path.{sym, ap, _∙_}
 use borrow.Author.Needs.{needs}
 use Rattle.ground.proofs.Laws.Lists.{take-rest}
-use Rattle.request_spec.specs.Parameters.{takes}
+use Rattle.request_spec.specs.Parameters.{isValueOf}
 use Rattle.request_spec.proofs.Laws.Acceptance.{writing-none, writing-some, writing-value}
-use Rattle.request.proofs.command.writing.Statement.{statement}
-use Rattle.request.proofs.command.writing.Tie as tie
+use Rattle.request.proofs.command.accept_write.Statement.{statement}
+use Rattle.request.proofs.command.accept_write.Tie as tie
 
 returns : tie.Need-returns
 returns c = writing-none (c .before .before .args .«data» .now) (c .if1 .taken)
@@ -29,8 +29,8 @@ returns-2 c =
     writing-some (d .before .before .before .before .args .«data» .now) (d .before .before .if1 .left)
     (sym (d .with-code .ensures) ∙ c .enum-told .given .1)
 
-sub-takes : tie.Need-sub-takes
-sub-takes c = search needs
+sub-is-value-of : tie.Need-sub-is-value-of
+sub-is-value-of c = search needs
 
 part-takes-start : tie.Need-part-takes-start
 part-takes-start c = search needs
@@ -38,8 +38,8 @@ part-takes-start c = search needs
 part-takes-end : tie.Need-part-takes-end
 part-takes-end c = search needs
 
-takes-requires : tie.Need-takes-requires
-takes-requires c κs = search needs
+is-value-of-requires : tie.Need-is-value-of-requires
+is-value-of-requires c κs = search needs
 
 returns-3 : tie.Need-returns-3
 returns-3 c =
@@ -47,7 +47,7 @@ returns-3 c =
     let «data» = d .before .before .before .before .args .«data» .now in
     let known = c .before .before .before .before .coded .given in
     writing-value «data» (d .before .before .if1 .left) (sym (d .with-code .ensures) ∙ known .1)
-    (ap (takes (known .0 .0)) (sym (take-rest «data» 1)) ∙ sym (c .before .takes .ensures) ∙ c .if2 .taken)
+    (ap (isValueOf (known .0 .0)) (sym (take-rest «data» 1)) ∙ sym (c .before .isValueOf .ensures) ∙ c .if2 .taken)
 
 returns-4 : tie.Need-returns-4
 returns-4 c =
@@ -55,10 +55,10 @@ returns-4 c =
     let «data» = d .before .before .before .before .args .«data» .now in
     let known = c .before .before .before .before .coded .given in
     writing-value «data» (d .before .before .if1 .left) (sym (d .with-code .ensures) ∙ known .1)
-    (ap (takes (known .0 .0)) (sym (take-rest «data» 1)) ∙ sym (c .before .takes .ensures) ∙ c .if2 .left)
+    (ap (isValueOf (known .0 .0)) (sym (take-rest «data» 1)) ∙ sym (c .before .isValueOf .ensures) ∙ c .if2 .left)
 
-pub writing-spec : {M : Type 1} → statement M
-writing-spec =
+pub accept-write-spec : {M : Type 1} → statement M
+accept-write-spec =
     tie.close
     (tie.spec
     returns
@@ -67,9 +67,9 @@ writing-spec =
     enum-known-coded
     enum-told
     returns-2
-    sub-takes
+    sub-is-value-of
     part-takes-start
     part-takes-end
-    takes-requires
+    is-value-of-requires
     returns-3
     returns-4)

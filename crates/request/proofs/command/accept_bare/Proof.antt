@@ -1,8 +1,8 @@
 -- `command::bare` meets its contract.
 -- Assumes nothing.
 use Rattle.request_spec.proofs.Laws.Acceptance.{bare-none, bare-some}
-use Rattle.request.proofs.command.bare.Statement.{statement}
-use Rattle.request.proofs.command.bare.Tie as tie
+use Rattle.request.proofs.command.accept_bare.Statement.{statement}
+use Rattle.request.proofs.command.accept_bare.Tie as tie
 
 returns : tie.Need-returns
 returns c = let a = c .before .args in bare-none (a .command) (a .«data» .now) (c .if1 .taken)
@@ -10,5 +10,5 @@ returns c = let a = c .before .args in bare-none (a .command) (a .«data» .now)
 returns-2 : tie.Need-returns-2
 returns-2 c = let a = c .before .args in bare-some (a .command) (a .«data» .now) (c .if1 .left)
 
-pub bare-spec : {M : Type 1} → statement M
-bare-spec = tie.close (tie.spec returns returns-2)
+pub accept-bare-spec : {M : Type 1} → statement M
+accept-bare-spec = tie.close (tie.spec returns returns-2)

@@ -1,8 +1,8 @@
--- `record::fresh_reader` meets its contract.
+-- `state::fresh_reader` meets its contract.
 -- Assumes nothing.
 use borrow.Author.Needs.{needs}
-use Rattle.reader.proofs.record.fresh_reader.Statement.{statement}
-use Rattle.reader.proofs.record.fresh_reader.Tie as tie
+use Rattle.reader.proofs.state.fresh_reader.Statement.{statement}
+use Rattle.reader.proofs.state.fresh_reader.Tie as tie
 
 fresh-parameters-requires : tie.Need-fresh-parameters-requires
 fresh-parameters-requires c κs = search needs

@@ -1,9 +1,9 @@
--- `record::is_bad` meets its contract.
+-- `state::is_bad` meets its contract.
 -- Assumes nothing.
 use mathlib.Core.Path.{sym, _∙_}
 use borrow.Author.Needs.{needs}
-use Rattle.reader.proofs.record.is_bad.Statement.{statement}
-use Rattle.reader.proofs.record.is_bad.Tie as tie
+use Rattle.reader.proofs.state.is_bad.Statement.{statement}
+use Rattle.reader.proofs.state.is_bad.Tie as tie
 
 is-speed-requires : tie.Need-is-speed-requires
 is-speed-requires c κs = search needs

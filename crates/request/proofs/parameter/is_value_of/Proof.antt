@@ -4,8 +4,8 @@ use mathlib.Core.Path.{_∙_}
 use native.Mathlib.Omega.{arith}
 use borrow.Author.Needs.{needs}
 use Rattle.request_spec.proofs.Laws.Parameters.{lengthOf-least, takes-none, takes-some}
-use Rattle.request.proofs.parameter.takes.Statement.{statement}
-use Rattle.request.proofs.parameter.takes.Tie as tie
+use Rattle.request.proofs.parameter.is_value_of.Statement.{statement}
+use Rattle.request.proofs.parameter.is_value_of.Tie as tie
 
 length-of-requires : tie.Need-length-of-requires
 length-of-requires c κs = search needs
@@ -47,8 +47,8 @@ returns-4 c =
     takes-some (c .before .before .before .before .before .args .value .now) (c .enum-told3 .given .1)
     (c .before .before .before .length-of .ensures) (c .before .before .if1 .left)
 
-pub takes-spec : {M : Type 1} → statement M
-takes-spec =
+pub is-value-of-spec : {M : Type 1} → statement M
+is-value-of-spec =
     tie.close
     (tie.spec
     length-of-requires

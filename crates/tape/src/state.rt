@@ -29,7 +29,7 @@ pub(crate) fn is_bad(tape: Tape) -> bool
     let next = tape.next;
     match next {
         Next::Kind => false,
-        Next::Body(_side) => tape.records == MOST_RECORDS,
+        Next::Body(_line) => tape.records == MOST_RECORDS,
         Next::Bad => false,
         Next::Full => false,
     }
@@ -42,7 +42,7 @@ pub fn is_over(tape: Tape) -> bool
     let next = tape.next;
     match next {
         Next::Kind => false,
-        Next::Body(_side) => false,
+        Next::Body(_line) => false,
         Next::Bad => true,
         Next::Full => true,
     }

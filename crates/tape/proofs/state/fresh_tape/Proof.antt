@@ -1,17 +1,17 @@
--- `record::fresh_tape` meets its contract.
+-- `state::fresh_tape` meets its contract.
 -- Assumes nothing.
 use mathlib.Core.Path.{ap}
 use borrow.Author.Needs.{needs}
 use Rattle.tape_spec.specs.declared.tape.Next.the-variants.{Kind}
-use Rattle.tape_spec.specs.Taping.{being}
-use Rattle.tape.proofs.record.fresh_tape.Statement.{statement}
-use Rattle.tape.proofs.record.fresh_tape.Tie as tie
+use Rattle.tape_spec.specs.Taping.{tapeOf}
+use Rattle.tape.proofs.state.fresh_tape.Statement.{statement}
+use Rattle.tape.proofs.state.fresh_tape.Tie as tie
 
 fresh-receivers-requires : tie.Need-fresh-receivers-requires
 fresh-receivers-requires c κs = search needs
 
 returns : tie.Need-returns
-returns c = ap (being 0 Kind) (c .fresh-receivers .ensures)
+returns c = ap (tapeOf 0 Kind) (c .fresh-receivers .ensures)
 
 pub fresh-tape-spec : {M : Type 1} → statement M
 fresh-tape-spec = tie.close (tie.spec fresh-receivers-requires returns)

@@ -3,8 +3,8 @@
 use mathlib.Core.Path.{sym, _∙_}
 use borrow.Author.Needs.{needs}
 use Rattle.request_spec.proofs.Laws.Acceptance.{reading-other, reading-one}
-use Rattle.request.proofs.command.reading.Statement.{statement}
-use Rattle.request.proofs.command.reading.Tie as tie
+use Rattle.request.proofs.command.accept_read.Statement.{statement}
+use Rattle.request.proofs.command.accept_read.Tie as tie
 
 returns : tie.Need-returns
 returns c = reading-other (c .before .before .args .«data» .now) (c .if1 .taken)
@@ -33,8 +33,8 @@ returns-3 c =
     reading-one (d .before .before .before .before .args .«data» .now) (d .before .before .if1 .left)
     (sym (d .with-code .ensures) ∙ c .enum-told .given .1)
 
-pub reading-spec : {M : Type 1} → statement M
-reading-spec =
+pub accept-read-spec : {M : Type 1} → statement M
+accept-read-spec =
     tie.close
     (tie.spec
     returns
