@@ -13,7 +13,7 @@ use lib.Seq.{take-suc, take-suc-set, length-take-le}
 use Rattle.link_spec.specs.declared.receiver.Receiver.{Receiver}
 use Rattle.link_spec.specs.Events.{happened}
 use Rattle.link_spec.specs.Receiving.{Said, badReceiver, received}
-use Rattle.link_spec.proofs.Laws.Receiving.{received-takes, stays-good, empty-piece}
+use Rattle.link_spec.proofs.Laws.Receiving.{received-takes, stays-good, empty-piece, takes-one}
 use Rattle.link_spec.proofs.Laws.Bytes.{later, received-first, received-later}
 use Rattle.tape_spec.specs.declared.tape.Line.{Line}
 use Rattle.tape_spec.specs.Limits.{leastRoom}
@@ -70,9 +70,6 @@ gathered kind most chunk piece count some few fits front =
 -- behind some bodies that brought a text
 abbrev pub behindRun : ℕ → List ℕ → Run → Run
 behindRun count text w = record { receiver = w .receiver; count = count + w .count; text = text ++ w .text }
-
-takes-one : (s : Receiver) → badReceiver s ≡ false → (b : ℕ) → received s (b ∷ []) .taken ≡ 1
-takes-one s good b = let t = received-takes s (b ∷ []) good in omega (arith, t .most, t .some (omega arith))
 
 none-quiet : (s : Receiver) → badReceiver s ≡ false → (bs : List ℕ) → received s bs .taken ≡ 0 → happened (received s bs .event) ≡ false
 none-quiet s good [] e = ap happened (empty-piece s .1)

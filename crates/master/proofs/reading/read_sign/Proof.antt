@@ -61,7 +61,7 @@ returns-4 : tie.Need-returns-4
 unfolding signRead reasonRead
 returns-4 c =
     simp (
-      c .meant2 .ensures,
+      c .says2 .ensures,
       eq-eqb _ _ (c .before .before .before .before .before .if1 .left),
       ne-eqb _ _
           (c .before .before .before .if2 .left),

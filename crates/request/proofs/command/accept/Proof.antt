@@ -38,15 +38,15 @@ returns-3 c = simp (c .before .match .keys3, c .accept-read .ensures)
 
 returns-4 : tie.Need-returns-4
 unfolding acceptance
-returns-4 c = simp (c .before .match .keys4, c .bare2 .ensures)
+returns-4 c = simp (c .before .match .keys4, c .accept-bare2 .ensures)
 
 returns-5 : tie.Need-returns-5
 unfolding acceptance
-returns-5 c = simp (c .before .match .keys5, c .bare3 .ensures)
+returns-5 c = simp (c .before .match .keys5, c .accept-bare3 .ensures)
 
 returns-6 : tie.Need-returns-6
 unfolding acceptance
-returns-6 c = simp (c .before .match .keys6, c .bare4 .ensures)
+returns-6 c = simp (c .before .match .keys6, c .accept-bare4 .ensures)
 
 returns-7 : tie.Need-returns-7
 unfolding acceptance

@@ -32,11 +32,11 @@ returns-2 c =
 sub-is-value-of : tie.Need-sub-is-value-of
 sub-is-value-of c = search needs
 
-part-takes-start : tie.Need-part-takes-start
-part-takes-start c = search needs
+part-is-value-of-start : tie.Need-part-is-value-of-start
+part-is-value-of-start c = search needs
 
-part-takes-end : tie.Need-part-takes-end
-part-takes-end c = search needs
+part-is-value-of-end : tie.Need-part-is-value-of-end
+part-is-value-of-end c = search needs
 
 is-value-of-requires : tie.Need-is-value-of-requires
 is-value-of-requires c κs = search needs
@@ -47,7 +47,7 @@ returns-3 c =
     let «data» = d .before .before .before .before .args .«data» .now in
     let known = c .before .before .before .before .coded .given in
     writing-value «data» (d .before .before .if1 .left) (sym (d .with-code .ensures) ∙ known .1)
-    (ap (isValueOf (known .0 .0)) (sym (take-rest «data» 1)) ∙ sym (c .before .isValueOf .ensures) ∙ c .if2 .taken)
+    (ap (isValueOf (known .0 .0)) (sym (take-rest «data» 1)) ∙ sym (c .before .is-value-of .ensures) ∙ c .if2 .taken)
 
 returns-4 : tie.Need-returns-4
 returns-4 c =
@@ -55,7 +55,7 @@ returns-4 c =
     let «data» = d .before .before .before .before .args .«data» .now in
     let known = c .before .before .before .before .coded .given in
     writing-value «data» (d .before .before .if1 .left) (sym (d .with-code .ensures) ∙ known .1)
-    (ap (isValueOf (known .0 .0)) (sym (take-rest «data» 1)) ∙ sym (c .before .isValueOf .ensures) ∙ c .if2 .left)
+    (ap (isValueOf (known .0 .0)) (sym (take-rest «data» 1)) ∙ sym (c .before .is-value-of .ensures) ∙ c .if2 .left)
 
 pub accept-write-spec : {M : Type 1} → statement M
 accept-write-spec =
@@ -68,8 +68,8 @@ accept-write-spec =
     enum-told
     returns-2
     sub-is-value-of
-    part-takes-start
-    part-takes-end
+    part-is-value-of-start
+    part-is-value-of-end
     is-value-of-requires
     returns-3
     returns-4)

@@ -88,8 +88,8 @@ loop-again c =
 enum-known-next : tie.Need-enum-known-next Inv-loop μ-loop
 enum-known-next c = search needs
 
-on-requires : tie.Need-on-requires Inv-loop μ-loop
-on-requires c κs = search needs
+receiver-on-requires : tie.Need-receiver-on-requires Inv-loop μ-loop
+receiver-on-requires c κs = search needs
 
 sub-rest : tie.Need-sub-rest Inv-loop μ-loop
 sub-rest c = omega arith
@@ -101,21 +101,21 @@ part-rest-end : tie.Need-part-rest-end Inv-loop μ-loop
 part-rest-end c = omega arith
 
 -- the turn of the loop, and the call's entry
-abbrev turn : tie.After-on Inv-loop μ-loop → tie.At-loop Inv-loop μ-loop
+abbrev turn : tie.After-receiver-on Inv-loop μ-loop → tie.At-loop Inv-loop μ-loop
 turn o = o .before .before .before .before .before .before .before .before
 
-abbrev entry : tie.After-on Inv-loop μ-loop → tie.Start Inv-loop μ-loop
+abbrev entry : tie.After-receiver-on Inv-loop μ-loop → tie.Start Inv-loop μ-loop
 entry o = turn o .before .before .before .before
 
 -- the chunk, and what all of it gives
-abbrev whole : tie.After-on Inv-loop μ-loop → List ℕ
+abbrev whole : tie.After-receiver-on Inv-loop μ-loop → List ℕ
 whole o = entry o .args .chunk .now
 
-abbrev all : tie.After-on Inv-loop μ-loop → ListedOut
+abbrev all : tie.After-receiver-on Inv-loop μ-loop → ListedOut
 all o = asked (whole o) (entry o .args .tape) (entry o .args .out .now)
 
 -- a body is next
-body-next : (o : tie.After-on Inv-loop μ-loop) → let l = turn o .loop in
+body-next : (o : tie.After-receiver-on Inv-loop μ-loop) → let l = turn o .loop in
     Goes (whole o) (all o) (l .out) (tapeOf (l .records) (Body (o .before .before .next .given .0 .0)) (l .receivers)) (l .taken) (l .written)
 body-next o =
     let l = turn o .loop in
@@ -132,7 +132,7 @@ run-requires c κs =
     let goes = body-next o in
     let some : 0 < length (drop (l .taken) (whole o)) = simp length-drop (omega arith) in
     let there : 0 < length (take (length (whole o) - l .taken) (drop (l .taken) (whole o))) = rw (take-rest (whole o) (l .taken)) some in
-    (rw (o .receiverOn .ensures) (on-good _ _ _ goes), (permitted _ _ goes, (there, (omega (arith, l .inv .2), goes .ends))))
+    (rw (o .receiver-on .ensures) (on-good _ _ _ goes), (permitted _ _ goes, (there, (omega (arith, l .inv .2), goes .ends))))
 
 -- what was heard, of the receiver that the tape holds and of all that is left
 heard : (c : tie.After-run Inv-loop μ-loop)
@@ -149,7 +149,7 @@ heard c =
     let part = take (length (whole o) - l .taken) (drop (l .taken) (whole o)) in
     subst (λ (x : List ℕ). RunHeard line (receiverOn line (l .receivers)) (l .records) x (l .out) (l .written) after)
     (take-rest (whole o) (l .taken))
-    (subst (λ (s : Receiver). RunHeard line s (l .records) part (l .out) (l .written) after) (o .receiverOn .ensures) (c .run .ensures))
+    (subst (λ (s : Receiver). RunHeard line s (l .records) part (l .out) (l .written) after) (o .receiver-on .ensures) (c .run .ensures))
 
 -- behind it a kind is next again
 kind-next : (c : tie.After-run Inv-loop μ-loop)
@@ -205,7 +205,7 @@ loop-again-2 c =
     let l = turn o .loop in
     let q = r .run .result in (
       subst⁻¹ (λ (x : Receivers). Goes (whole o) (all o) (r .run .last .1 .1 .1 .1 .1 .0) (tapeOf (l .records + q .count) Kind x)
-          (l .taken + (2 * q .count - 1)) (q .end)) (c .before .before .withReceiver .ensures) (kind-next r),
+          (l .taken + (2 * q .count - 1)) (q .end)) (c .before .before .with-receiver .ensures) (kind-next r),
       omega (arith, r .run .kept, l .inv .1),
       omega (arith, r .run .kept, l .inv .2),
     )
@@ -249,7 +249,7 @@ go-spec =
     loop-less
     loop-again
     enum-known-next
-    on-requires
+    receiver-on-requires
     sub-rest
     part-rest-start
     part-rest-end
