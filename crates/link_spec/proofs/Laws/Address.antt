@@ -1,13 +1,13 @@
 -- Each byte is just one of the four kinds of address, and what follows for stations: computed for all bytes by one test.
 -- Assumes nothing.
-use mathlib.Core.Bool.{Bool, true, false, cond, not, _&&_, _||_, Bool·beq, and-eq-true-iff}
+use mathlib.Core.Bool.{Bool, true, false, cond, not, _&&_, _||_, Bool·beq}
 use mathlib.Core.Path.{_≡_, refl, sym, _∙_}
 use Prim.Native.Nat.{ℕ, _+_, _<_}
 use native.Mathlib.Omega.{arith}
 use lib.Dec.{eqb, leb}
 use lib.ListN.{replicate, getD-replicate}
-use borrow.Author.Tests.{eqb-true, leb-true}
-use Rattle.ground.proofs.Laws.Choice.{cond-elim, cond-not, or-elim, no-case}
+use borrow.Author.Tests.{eqb-true}
+use Rattle.ground.proofs.Laws.Choice.{cond-elim, cond-not, or-elim, between-true, no-case}
 use Rattle.ground.proofs.Laws.Table.{lists, entry}
 use Rattle.wire_spec.specs.Stuffing.{special}
 use Rattle.wire_spec.proofs.Laws.Stuffing.{plain-is}
@@ -49,8 +49,7 @@ station-kinds a h why =
 own-lt : (a : ℕ) → isOwn a ≡ true → a < 0xFD
 own-lt a =
     or-elim (leb 0x01 a && leb a 0x7E) (leb 0x80 a && leb a 0xFC)
-    (λ t. omega (arith, leb-true a 0x7E (and-eq-true-iff (leb 0x01 a) (leb a 0x7E) .0 t .1)))
-    (λ t. omega (arith, leb-true a 0xFC (and-eq-true-iff (leb 0x80 a) (leb a 0xFC) .0 t .1)))
+    (λ t. omega (arith, between-true 0x01 0x7E a t)) (λ t. omega (arith, between-true 0x80 0xFC a t))
 
 station-lt : (own : ℕ) → isStation own ≡ true → own < 0xFD
 station-lt own = or-elim (isMaster own) (isOwn own) (λ t. omega (arith, eqb-true own 0x00 t)) (own-lt own)
