@@ -1,7 +1,7 @@
 -- A choice, and two tests in one, taken apart; a number between two limits; and what cannot be.
 -- Assumes nothing.
 use mathlib.Core.Path.{_≡_, refl}
-use mathlib.Core.Bool.{Bool, true, false, cond, not, _&&_, _||_, true≢false, and-eq-true-iff}
+use mathlib.Core.Bool.{Bool, true, false, cond, _&&_, _||_, true≢false, and-eq-true-iff}
 use Prim.Native.Nat.{ℕ, _≤_}
 use native.Mathlib.Omega.{arith}
 use lib.Dec.{leb}
@@ -16,10 +16,6 @@ cond-elim P false f g = g refl
 pub by-test : (P : Bool → Type 0) (t : Bool) → (t ≡ true → P true) → (t ≡ false → P false) → P t
 by-test P true f g = f refl
 by-test P false f g = g refl
-
-pub cond-not : {A : Type 0} (t : Bool) (x y : A) → cond (not t) x y ≡ cond t y x
-cond-not true x y = refl
-cond-not false x y = refl
 
 -- what follows from either of two tests follows where one of them is true
 pub or-elim : {P : Type 0} (s t : Bool) → (s ≡ true → P) → (t ≡ true → P) → (s || t) ≡ true → P

@@ -4,6 +4,7 @@
 use mathlib.Core.Path.{_≡_, refl, sym, ap, subst, subst⁻¹, _∙_}
 use mathlib.Core.Bool.{Bool, true, false}
 use mathlib.Core.List.{List, [], _∷_, _++_, List·Memᴰ}
+use mathlib.Core.Logic.{Iff·rfl}
 use Prim.Native.Nat.{ℕ, _+_, _≤_}
 use native.Mathlib.Omega.{arith}
 use lib.ListN.{length, take, drop}
@@ -41,7 +42,7 @@ record Wrote («data» content : List ℕ) (w : After) : Type 0 where
   bytes : take (w .tally .count) (w .out) ≡ image content
   counts : w .tally .count ≡ length (image content)
 
-table-wrote : {never : Bool} {«data» content out : List ℕ} {w : After} → WriterTable never «data» content out w → w .tally .refusal ≡ 0
+table-wrote : {Refused : Type 0} {«data» content out : List ℕ} {w : After} → WriterTable Refused «data» content out w → w .tally .refusal ≡ 0
     → Wrote «data» content w
 table-wrote (tooLong long) none = absurd (omega arith)
 table-wrote (badAddress fits bad) none = absurd (omega arith)
@@ -54,7 +55,7 @@ wrote : (never : Bool) («data» content out : List ℕ) (r : Counted) {out′ :
     → Wrote «data» content (after r out′)
 wrote never «data» content out r says none =
     subst⁻¹ (Wrote «data» content) says
-    (table-wrote (by-table never «data» content out) (sym (ap (λ (a : After). a .tally .refusal) says) ∙ none))
+    (table-wrote (by-table never Iff·rfl «data» content out) (sym (ap (λ (a : After). a .tally .refusal) says) ∙ none))
 
 -- the image of a content with its check, put anywhere into any stream, is told there, and so is what a writer wrote
 module _ (station : Station) (front «data» before rest : List ℕ) (long : length (checked station front) ≡ leastContent + length «data»)
