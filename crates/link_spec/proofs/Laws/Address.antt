@@ -1,7 +1,7 @@
 -- Each byte is just one of the four kinds of address, and what follows for stations: computed for all bytes by one test.
 -- Assumes nothing.
 use mathlib.Core.Bool.{Bool, true, false, cond, not, _&&_, _||_, Bool·beq, and-true, not-eq-not}
-use mathlib.Core.Path.{_≡_, refl, sym, ap, _∙_}
+use mathlib.Core.Path.{_≡_, refl, sym, _∙_}
 use mathlib.Core.Logic.{_↔_}
 use Prim.Native.Nat.{ℕ, _+_, _≤_, _<_}
 use native.Mathlib.Decide.{decLe}
@@ -79,9 +79,8 @@ no-station-is own = (λ none. of none (decLe 0xFD own), back)
     of : isStation own ≡ false → Dec (0xFD ≤ own) → NoStation own
     of none (yes least) = never least
     of none (no few) =
-        let most : leb own 0xFC ≡ true = le-leb own 0xFC (omega arith) in
         let other : not (isBroadcast own) ≡ false =
-        sym (and-true (not (isBroadcast own))) ∙ ap (λ (t : Bool). not (isBroadcast own) && t) (sym most) ∙ sym (station-is own (omega arith)) ∙ none in
+        rw (le-leb own 0xFC (omega arith), and-true) at (sym (station-is own (omega arith)) ∙ none) in
         rw (eqb-true own 0x7F (not-false (isBroadcast own) other)) broadcast
 
     back : {a : ℕ} → NoStation a → isStation a ≡ false

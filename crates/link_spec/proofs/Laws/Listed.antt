@@ -27,7 +27,7 @@ use Rattle.link_spec.specs.Frame.{pointContent, addressedContent}
 use Rattle.link_spec.specs.Writers.{writtenUnless, pointWritten, addressedWritten, WriterTable, tooLong, badAddress, noRoom, frame}
 use Rattle.link_spec.specs.Events.{FRAME}
 use Rattle.link_spec.specs.Hearing.{Told, toldAt, IsFresh, Hearing}
-use Rattle.link_spec.specs.Listing.{Fields, onPoint, onAddressed, IsImage}
+use Rattle.link_spec.specs.Fields.{Fields, onPoint, onAddressed, IsImage}
 use Rattle.link_spec.proofs.Laws.Address.{takes-lt}
 use Rattle.link_spec.proofs.Laws.Frame.{length-point, length-addressed}
 use Rattle.link_spec.proofs.Laws.Writers.{by-table, point-writes, addressed-writes}
