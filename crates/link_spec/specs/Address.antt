@@ -1,6 +1,6 @@
 -- The addresses of the addressed line: each byte is the master's, broadcast, a reader's own, or never an address.
 -- 01, Layout of a frame, 'Addresses'; 000, 'Транспортный уровень'. Assumes nothing.
-use Prim.Native.Nat.{ℕ}
+use Prim.Native.Nat.{ℕ, _≤_}
 use mathlib.Core.Bool.{Bool, cond, _||_, _&&_}
 use lib.Dec.{eqb, leb}
 use Rattle.wire_spec.specs.Stuffing.{special}
@@ -28,3 +28,14 @@ isStation a = isMaster a || isOwn a
 -- a master station takes 00 only; a reader takes its own address and 7F
 unfoldable pub takes : ℕ → ℕ → Bool
 takes own a = cond (isMaster own) (isMaster a) (eqb a own || isBroadcast a)
+
+-- ---- the same in numbers, for the rows of the refusal table
+
+-- FD..FF
+abbrev pub Never : ℕ → Type 0
+Never a = (0xFD ≤ a) × (a ≤ 0xFF)
+
+-- an address no station may have: 7F or FD..FF, which are the bytes from FD on
+pub data NoStation : ℕ → Type 0 where
+  broadcast : NoStation 0x7F
+  never : {own : ℕ} → 0xFD ≤ own → NoStation own

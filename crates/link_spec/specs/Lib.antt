@@ -1,7 +1,7 @@
--- What a reader of this library must believe: what a station writes and hears. Read Limits, Address, Line and Frame beside document 01, 'The
--- two lines' and 'Layout of a frame'; Writers, what each frame writer answers, beside that and 'Refusal numbers'; Events, Turning and Rules
--- beside 'How the receiver moves', and Receiving, what each call of a receiver answers, beside that and 'Refusal numbers'; Hearing and Listing as
--- the rule that crew and desk signed; Examples beside 'Bench examples'.
+-- What a reader of this library must believe: what a station writes and hears. Read Limits, Address, Station and Frame beside document 01,
+-- 'The two lines' and 'Layout of a frame'; Writers, what each frame writer answers, beside that and 'Refusal numbers'; Events, Turning and
+-- Rules beside 'How the receiver moves', and Receiving, what each call of a receiver answers, beside that and 'Refusal numbers'; Hearing and
+-- Listing as the rule that crew and desk signed, and Fields for what a listed frame says; Examples beside 'Bench examples'.
 pub mod Limits
 pub mod Address
 pub mod Station
@@ -13,4 +13,5 @@ pub mod Rules
 pub mod Receiving
 pub mod Hearing
 pub mod Listing
+pub mod Fields
 pub mod Examples

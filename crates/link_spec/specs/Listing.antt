@@ -3,19 +3,13 @@
 -- alone. 01, How much each call must say, names the demand. Assumes nothing.
 use Prim.Native.Nat.{ℕ, _+_, _≤_, _<_}
 use mathlib.Core.Path.{_≡_}
-use mathlib.Core.Bool.{true}
 use mathlib.Core.List.{List, [], _∷_, _++_, List·Memᴰ}
 use lib.ListN.{length}
 use Rattle.wire_spec.specs.Limits.{mostContent}
 use Rattle.wire_spec.specs.Image.{image}
-use Rattle.wire_spec.specs.Writing.{After, putting}
 use Rattle.link_spec.specs.declared.station.Station.{Station}
-use Rattle.link_spec.specs.declared.station.Station.the-variants.{Point, Addressed}
 use Rattle.link_spec.specs.Limits.{leastContent}
-use Rattle.link_spec.specs.Address.{takes}
 use Rattle.link_spec.specs.Station.{checked, Taken}
-use Rattle.link_spec.specs.Frame.{pointContent, addressedContent}
-use Rattle.link_spec.specs.Writers.{pointWritten, addressedWritten}
 use Rattle.link_spec.specs.Events.{FRAME}
 use Rattle.link_spec.specs.Hearing.{Told, toldAt}
 
@@ -40,23 +34,3 @@ pub record Lists (station : Station) (stream : List ℕ) (all : List Told) : Typ
   pub rise : PlacesRise 0 all
   pub each : (place : ℕ) (front : List ℕ) → Stands station stream place front → List·Memᴰ (toldAt place FRAME front) all
   pub only : (place : ℕ) (front : List ℕ) → List·Memᴰ (toldAt place FRAME front) all → Stands station stream place front
-
--- where there is room, this writer writes the image of this content
-abbrev pub Writes : (List ℕ → After) → List ℕ → Type 0
-Writes writer content = (out : List ℕ) → length (image content) ≤ length out → writer out ≡ putting content out
-
--- What a front lists, and the content with its check that belongs to it: identifier, command and data, on the addressed line with an
--- address before them that this station takes. The line's writer, asked to write these, writes the image of that content.
-pub data Fields : Station → List ℕ → List ℕ → Type 0 where
-  onPoint : (identifier command : ℕ) («data» : List ℕ)
-      → Writes (pointWritten identifier command «data») (pointContent identifier command «data»)
-      → Fields Point (identifier ∷ command ∷ «data») (pointContent identifier command «data»)
-  onAddressed : {own : ℕ} (address identifier command : ℕ) («data» : List ℕ)
-      → takes own address ≡ true
-      → Writes (addressedWritten address identifier command «data») (addressedContent address identifier command «data»)
-      → Fields (Addressed own) (address ∷ identifier ∷ command ∷ «data») (addressedContent address identifier command «data»)
-
--- what stands in the stream is the image that the writer writes of what the front lists
-pub record IsImage (station : Station) (stream : List ℕ) (place : ℕ) (front : List ℕ) : Type 0 where
-  pub stands : Stands station stream place front
-  pub fields : Fields station front (checked station front)

@@ -1,6 +1,7 @@
 -- What the receiver's calls answer, for every input.
 -- 01, How the receiver moves, and Refusal numbers, rows 3 and 4. Assumes nothing.
-use Prim.Native.Nat.{ℕ, _+_}
+use Prim.Native.Nat.{ℕ, _+_, _<_}
+use mathlib.Core.Path.{_≡_}
 use mathlib.Core.Bool.{Bool, true, false, cond, _||_, not}
 use mathlib.Core.List.{List, [], _∷_}
 use lib.Dec.{ltb}
@@ -20,7 +21,7 @@ use Rattle.link_spec.specs.declared.receiver.Turn.the-variants.{Rest, Be
 use Rattle.link_spec.specs.declared.receiver.Receiver.{Receiver}
 use Rattle.link_spec.specs.declared.receiver.Fresh.{Fresh}
 use Rattle.link_spec.specs.declared.receiver.Heard.{Heard}
-use Rattle.link_spec.specs.Address.{isStation}
+use Rattle.link_spec.specs.Address.{isStation, NoStation}
 use Rattle.link_spec.specs.Station.{checkOn, hasAddress}
 use Rattle.link_spec.specs.Events.{Name, named, telling, silent, verdict}
 use Rattle.link_spec.specs.Turning.{turn}
@@ -133,3 +134,19 @@ badReceiver s = ltb mostContent (s .count) || not (hasAddress (s .station))
 
 unfoldable pub received : Receiver → List ℕ → Said
 received s piece = cond (badReceiver s) (notHeard s) (heard 0 s piece)
+
+-- ---- the refusals as tables: `Laws.Fresh` and `Laws.Receiving` prove that the calls answer by them, and that they leave no other answer
+
+-- row 3: a new station given 7F or FD..FF
+pub data NewTable (own : ℕ) : Made → Type 0 where
+  badAddress : NoStation own → NewTable own (record { refusal = number BadAddress; receiver = freshReceiver (Addressed own) })
+  fresh : (NoStation own → ⊥) → NewTable own (record { refusal = 0; receiver = freshReceiver (Addressed own) })
+
+-- row 4: receiver count over 64, or on the addressed line an address no station may have
+pub data BadReceiver (s : Receiver) : Type 0 where
+  over : mostContent < s .count → BadReceiver s
+  noStation : {own : ℕ} → s .station ≡ Addressed own → NoStation own → BadReceiver s
+
+pub data ReceiverTable (s : Receiver) (piece : List ℕ) : Said → Type 0 where
+  badState : BadReceiver s → ReceiverTable s piece (notHeard s)
+  hearsPiece : (BadReceiver s → ⊥) → ReceiverTable s piece (heard 0 s piece)

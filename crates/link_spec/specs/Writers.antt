@@ -1,8 +1,7 @@
 -- What the frame writers answer and leave in the buffer lent to them, for every input.
 -- 01, Layout of a frame, the last paragraph, and Refusal numbers. Assumes nothing.
 use Prim.Native.Nat.{ℕ, _≤_, _<_}
-use mathlib.Core.Path.{_≡_}
-use mathlib.Core.Bool.{Bool, true, false, cond}
+use mathlib.Core.Bool.{Bool, false, cond}
 use mathlib.Core.List.{List}
 use lib.Dec.{ltb}
 use lib.ListN.{length}
@@ -10,7 +9,7 @@ use Rattle.ground.specs.declared.refusal.Refusal.the-variants.{NoRoom, TooLong,
 use Rattle.wire_spec.specs.Image.{image}
 use Rattle.wire_spec.specs.Writing.{After, notWritten, putting, imageWritten}
 use Rattle.link_spec.specs.Limits.{mostData}
-use Rattle.link_spec.specs.Address.{isNever}
+use Rattle.link_spec.specs.Address.{isNever, Never}
 use Rattle.link_spec.specs.Frame.{pointContent, addressedContent}
 
 -- 01, Refusal numbers, rows 2 and 3, and 'Order': writer 2, 3, 1; then the image
@@ -28,16 +27,24 @@ unfoldable pub addressedWritten : ℕ → ℕ → ℕ → List ℕ → List ℕ 
 addressedWritten address identifier command «data» out =
     writtenUnless (isNever address) «data» (addressedContent address identifier command «data») out
 
--- The writer's rows of the refusal table, and the frame where no row applies. `Laws.Writers` proves that `written` answers by them,
--- and that they leave it no other answer.
-pub data WriterTable (never : Bool) («data» content out : List ℕ) : After → Type 0 where
-  tooLong : mostData < length «data» → WriterTable never «data» content out (notWritten TooLong out)
-  badAddress : length «data» ≤ mostData → never ≡ true → WriterTable never «data» content out (notWritten BadAddress out)
+-- The writer's rows of the refusal table, and the frame where no row applies, where `Refused` says that the address is FD..FF. `Laws.Writers`
+-- proves that each writer answers by them, and that they leave it no other answer.
+pub data WriterTable (Refused : Type 0) («data» content out : List ℕ) : After → Type 0 where
+  tooLong : mostData < length «data» → WriterTable Refused «data» content out (notWritten TooLong out)
+  badAddress : length «data» ≤ mostData → Refused → WriterTable Refused «data» content out (notWritten BadAddress out)
   noRoom : length «data» ≤ mostData
-      → never ≡ false
+      → (Refused → ⊥)
       → length out < length (image content)
-      → WriterTable never «data» content out (notWritten NoRoom out)
+      → WriterTable Refused «data» content out (notWritten NoRoom out)
   frame : length «data» ≤ mostData
-      → never ≡ false
+      → (Refused → ⊥)
       → length (image content) ≤ length out
-      → WriterTable never «data» content out (putting content out)
+      → WriterTable Refused «data» content out (putting content out)
+
+-- a point frame has no address: its writer never answers by the second row
+abbrev pub PointTable : ℕ → ℕ → List ℕ → List ℕ → After → Type 0
+PointTable identifier command «data» out = WriterTable ⊥ «data» (pointContent identifier command «data») out
+
+abbrev pub AddressedTable : ℕ → ℕ → ℕ → List ℕ → List ℕ → After → Type 0
+AddressedTable address identifier command «data» out =
+    WriterTable (Never address) «data» (addressedContent address identifier command «data») out

@@ -10,7 +10,7 @@ use lib.ListN.{replicate}
 use Rattle.ground.specs.declared.refusal.Refusal.the-variants.{BadRequest}
 use Rattle.wire_spec.specs.Writing.{notWritten}
 use Rattle.request_spec.specs.declared.command.Card.{Card}
-use Rattle.request_spec.specs.declared.command.Card.the-variants.{Motorola}
+use Rattle.request_spec.specs.declared.command.Card.the-variants.{Marin, Hid, Motorola}
 use Rattle.request_spec.specs.Cards.{isCode, codeNumber}
 use Rattle.request_spec.specs.Acceptance.{acceptance, isAccepted}
 use Rattle.request_spec.specs.Header.{header}
@@ -23,10 +23,10 @@ pub data Example : Type 0 where
   accepts : (code : ℕ) («data» : List ℕ) → Example
   -- the writer of requests refuses this, whatever the room
   badRequest : (identifier code : ℕ) («data» out : List ℕ) → Example
-  -- a card's code may have so many bytes, or not
+  -- an antenna's answer for a card may have this many bytes, or not
   codes : (card : Card) (count : ℕ) (is : Bool) → Example
-  -- a card's code stands for this number
-  stands : (code : List ℕ) (number : ℕ) → Example
+  -- the code in an antenna's answer for a card stands for this number
+  stands : (card : Card) (answer : List ℕ) (number : ℕ) → Example
   -- a device's name and numbers laid out
   lays : (name : List ℕ) (kind version protocol serial flags : ℕ) (printed : List ℕ) → Example
   -- the master that asked this, and gets this reply, refuses or reads
@@ -36,7 +36,7 @@ abbrev pub Holds : Example → Type 0
 Holds (accepts code «data») = isAccepted (acceptance code «data») ≡ true
 Holds (badRequest identifier code «data» out) = requestWritten identifier code «data» out ≡ notWritten BadRequest out
 Holds (codes card count is) = isCode card count ≡ is
-Holds (stands code number) = codeNumber code ≡ number
+Holds (stands card answer number) = codeNumber card answer ≡ number
 Holds (lays name kind version protocol serial flags printed) = header name kind version protocol serial flags ≡ printed
 Holds (reads identifier code «data» reply refusal meaning) =
     replyRead identifier code «data» reply ≡ record { refusal = refusal; meaning = meaning }
@@ -56,9 +56,11 @@ examples =
     ∷ codes Motorola 4 false
     ∷ codes Motorola 5 true
     ∷ codes Motorola 6 false
-    -- a card's code high byte first
-    ∷ stands (0x00 ∷ 0x00 ∷ 0x01 ∷ []) 1
-    ∷ stands (0x12 ∷ 0x34 ∷ 0x56 ∷ 0x78 ∷ 0x9A ∷ []) 0x123456789A
+    -- a card's code high byte first, of an HID card after its type, here Wiegand 26
+    ∷ stands Marin (0x00 ∷ 0x00 ∷ 0x01 ∷ []) 1
+    ∷ stands Marin (0x12 ∷ 0x34 ∷ 0x56 ∷ 0x78 ∷ 0x9A ∷ []) 0x123456789A
+    ∷ stands Hid (26 ∷ 0x12 ∷ 0x34 ∷ 0x56 ∷ 0x78 ∷ 0x9A ∷ []) 0x123456789A
+    ∷ stands Motorola (0x12 ∷ 0x34 ∷ 0x56 ∷ 0x78 ∷ 0x9A ∷ []) 0x123456789A
     -- numbers low byte first, each in its place
     ∷ lays (replicate 20 0x41) 1 2 3 0x12345678 0xFFFFFFFE
     (replicate 20 0x41 ++ (1 ∷ 0 ∷ 0 ∷ 0 ∷ 2 ∷ 0 ∷ 0 ∷ 0 ∷ 3 ∷ 0 ∷ 0 ∷ 0 ∷ 0x78 ∷ 0x56 ∷ 0x34 ∷ 0x12 ∷ 0xFE ∷ 0xFF ∷ 0xFF ∷ 0xFF ∷ []))

@@ -1,9 +1,9 @@
 -- What the master reads in a reply's content without check.
 -- 01, 'Master's side', and Refusal numbers, rows 5 to 9. Assumes nothing.
-use Prim.Native.Nat.{ℕ}
+use Prim.Native.Nat.{ℕ, _≤_}
 use mathlib.Core.Path.{_≡_}
 use mathlib.Core.Bool.{Bool, true, false, cond, _&&_, _||_, not}
-use mathlib.Core.List.{List}
+use mathlib.Core.List.{List, [], _∷_}
 use mathlib.Core.Option.{Option, none, some}
 use lib.Dec.{eqb, leb}
 use lib.ListN.{length, getD}
@@ -20,7 +20,7 @@ use Rattle.request_spec.specs.declared.reply.Reading.{Reading}
 use Rattle.request_spec.specs.Limits.{headerLength}
 use Rattle.request_spec.specs.Parameters.{lengthOf}
 use Rattle.request_spec.specs.Cards.{isCode}
-use Rattle.request_spec.specs.Acceptance.{acceptance, isAccepted}
+use Rattle.request_spec.specs.Acceptance.{acceptance, Accepts}
 use Rattle.request_spec.specs.Replies.{Reply, ACK, NACK, DATA, sign, identifierOf, commandOf, dataOf, ackByte}
 
 -- what each case means where the reply has this data; none where the call refused
@@ -79,10 +79,6 @@ reasonRead command reason =
 unfoldable pub signRead : Command → List ℕ → Understood
 signRead command «data» = cond (eqb (length «data») 1) (reasonRead command (getD «data» 0 0)) (notRead WrongLength)
 
--- that byte
-abbrev pub reason : List ℕ → ℕ
-reason reply = getD (dataOf reply) 0 0
-
 -- row 6: reply identifier differs, or the content is empty
 abbrev pub wrongId : ℕ → List ℕ → Bool
 wrongId identifier reply = eqb (length reply) 0 || not (eqb (identifierOf reply) identifier)
@@ -109,57 +105,51 @@ readBy identifier code reply (Refused fault) = notRead BadRequest
 unfoldable pub replyRead : ℕ → ℕ → List ℕ → List ℕ → Understood
 replyRead identifier code «data» reply = readBy identifier code reply (acceptance code «data»)
 
--- the request is this command, and no row up to 7 refuses the reply
-abbrev pub Heeded : ℕ → ℕ → List ℕ → List ℕ → Command → Type 0
-Heeded identifier code «data» reply command =
-    (acceptance code «data» ≡ Accepted command) × (wrongId identifier reply ≡ false) × (wrongCommand code reply ≡ false)
+-- ---- the same as a table
 
--- and it is 2A with one byte
-abbrev pub Signed : ℕ → ℕ → List ℕ → List ℕ → Command → Type 0
-Signed identifier code «data» reply command =
-    Heeded identifier code «data» reply command × ((isSign reply ≡ true) × (eqb (length (dataOf reply)) 1 ≡ true))
+-- how many bytes of data answer a request with this code and data: the lengths of the table in 'The point reader' (10 and 14: 1 to 8)
+pub data Due : ℕ → List ℕ → ℕ → Type 0 where
+  forHeader : Due 0x00 [] 40
+  forSpeed : Due 0x02 (0x02 ∷ []) 1
+  forSettings : Due 0x02 (0x05 ∷ []) 4
+  forCell : Due 0x02 (0x80 ∷ []) 8
+  forMarin : {n : ℕ} → 1 ≤ n → n ≤ 8 → Due 0x10 [] n
+  forHid : {n : ℕ} → 1 ≤ n → n ≤ 8 → Due 0x14 [] n
+  forMotorola : Due 0x18 [] 5
+
+-- what is read in a reply to a request with this identifier, code and data: rows 6 to 9, and the reply where none of them applies
+pub data ByReply (identifier code : ℕ) («data» : List ℕ) : List ℕ → Understood → Type 0 where
+  -- 6: reply identifier differs, or the content is empty
+  empty : ByReply identifier code «data» [] (notRead WrongId)
+  otherIdentifier : {b : ℕ} {more : List ℕ} → (b ≡ identifier → ⊥) → ByReply identifier code «data» (b ∷ more) (notRead WrongId)
+  -- 7: command byte absent, or neither 2A nor the request's, or 01 echoed
+  noCommand : ByReply identifier code «data» (identifier ∷ []) (notRead WrongCommand)
+  otherCommand : {b : ℕ} {more : List ℕ} → (b ≡ 0x2A → ⊥)
+      → (b ≡ code → ⊥)
+      → ByReply identifier code «data» (identifier ∷ b ∷ more) (notRead WrongCommand)
+  echo : {more : List ℕ} → code ≡ 0x01 → ByReply identifier code «data» (identifier ∷ code ∷ more) (notRead WrongCommand)
+  -- 8: data length not as above; for 2A not one byte
+  dataLength : {bytes : List ℕ} → (code ≡ 0x01 → ⊥)
+      → (Due code «data» (length bytes) → ⊥)
+      → ByReply identifier code «data» (identifier ∷ code ∷ bytes) (notRead WrongLength)
+  signLength : {bytes : List ℕ} → (length bytes ≡ 1 → ⊥)
+      → ByReply identifier code «data» (identifier ∷ 0x2A ∷ bytes) (notRead WrongLength)
+  -- 9: 2A byte not 55 or 1..6, or 55 where data was due
+  otherReason : {b : ℕ} → (b ≡ 0x55 → ⊥)
+      → (1 ≤ b → b ≤ 6 → ⊥)
+      → ByReply identifier code «data» (identifier ∷ 0x2A ∷ b ∷ []) (notRead WrongReason)
+  ackForData : (code ≡ 0x01 → ⊥) → ByReply identifier code «data» (identifier ∷ 0x2A ∷ 0x55 ∷ []) (notRead WrongReason)
+  -- ACK, NACK with number 1..6, or data
+  ack : code ≡ 0x01 → ByReply identifier code «data» (identifier ∷ 0x2A ∷ 0x55 ∷ []) (hasRead ACK)
+  nack : {n : ℕ} → 1 ≤ n → n ≤ 6 → ByReply identifier code «data» (identifier ∷ 0x2A ∷ n ∷ []) (hasRead (NACK n))
+  bytes : {bytes : List ℕ} → Due code «data» (length bytes)
+      → ByReply identifier code «data» (identifier ∷ code ∷ bytes) (hasRead (DATA bytes))
 
 -- The master's rows of the refusal table, and the reply where no row applies. `Laws.Reading` proves that `replyRead` answers by them,
 -- and that they leave it no other answer.
 pub data MasterTable (identifier code : ℕ) («data» reply : List ℕ) : Understood → Type 0 where
-  request : isAccepted (acceptance code «data») ≡ false → MasterTable identifier code «data» reply (notRead BadRequest)
-  -- reply identifier differs, or the content is empty
-  identity : {command : Command} → acceptance code «data» ≡ Accepted command
-      → wrongId identifier reply ≡ true
-      → MasterTable identifier code «data» reply (notRead WrongId)
-  -- command byte absent, or neither 2A nor the request's, or 01 echoed
-  otherCommand : {command : Command} → acceptance code «data» ≡ Accepted command
-      → wrongId identifier reply ≡ false
-      → wrongCommand code reply ≡ true
-      → MasterTable identifier code «data» reply (notRead WrongCommand)
-  -- for 2A not one byte; data length not as above
-  signLength : {command : Command} → Heeded identifier code «data» reply command
-      → isSign reply ≡ true
-      → eqb (length (dataOf reply)) 1 ≡ false
-      → MasterTable identifier code «data» reply (notRead WrongLength)
-  dataLength : {command : Command} → Heeded identifier code «data» reply command
-      → isSign reply ≡ false
-      → isDue command (length (dataOf reply)) ≡ false
-      → MasterTable identifier code «data» reply (notRead WrongLength)
-  -- 55 where data was due; 2A byte not 55 or 1..6
-  ackDue : {command : Command} → Signed identifier code «data» reply command
-      → eqb (reason reply) ackByte ≡ true
-      → isWrite command ≡ false
-      → MasterTable identifier code «data» reply (notRead WrongReason)
-  noReason : {command : Command} → Signed identifier code «data» reply command
-      → eqb (reason reply) ackByte ≡ false
-      → isNack (reason reply) ≡ false
-      → MasterTable identifier code «data» reply (notRead WrongReason)
-  -- ACK, NACK with number 1..6, or data
-  ack : {command : Command} → Signed identifier code «data» reply command
-      → eqb (reason reply) ackByte ≡ true
-      → isWrite command ≡ true
-      → MasterTable identifier code «data» reply (hasRead ACK)
-  nack : {command : Command} → Signed identifier code «data» reply command
-      → eqb (reason reply) ackByte ≡ false
-      → isNack (reason reply) ≡ true
-      → MasterTable identifier code «data» reply (hasRead (NACK (reason reply)))
-  bytes : {command : Command} → Heeded identifier code «data» reply command
-      → isSign reply ≡ false
-      → isDue command (length (dataOf reply)) ≡ true
-      → MasterTable identifier code «data» reply (hasRead (DATA (dataOf reply)))
+  -- 5: a request that step 4 or 5 would refuse
+  badRequest : ((command : Command) → Accepts code «data» command → ⊥) → MasterTable identifier code «data» reply (notRead BadRequest)
+  acceptable : {command : Command} {answer : Understood} → Accepts code «data» command
+      → ByReply identifier code «data» reply answer
+      → MasterTable identifier code «data» reply answer

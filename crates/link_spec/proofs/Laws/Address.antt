@@ -1,17 +1,19 @@
 -- Each byte is just one of the four kinds of address, and what follows for stations: computed for all bytes by one test.
 -- Assumes nothing.
-use mathlib.Core.Bool.{Bool, true, false, cond, not, _&&_, _||_, Bool·beq, and-eq-true-iff}
+use mathlib.Core.Bool.{Bool, true, false, cond, not, _&&_, _||_, Bool·beq, and-true, not-eq-not}
 use mathlib.Core.Path.{_≡_, refl, sym, _∙_}
-use Prim.Native.Nat.{ℕ, _+_, _<_}
+use mathlib.Core.Logic.{_↔_}
+use Prim.Native.Nat.{ℕ, _+_, _≤_, _<_}
+use native.Mathlib.Decide.{decLe}
 use native.Mathlib.Omega.{arith}
 use lib.Dec.{eqb, leb}
 use lib.ListN.{replicate, getD-replicate}
-use borrow.Author.Tests.{eqb-true, leb-true}
-use Rattle.ground.proofs.Laws.Choice.{cond-elim, cond-not, or-elim, no-case}
+use borrow.Author.Tests.{eqb-true, le-leb, not-false}
+use Rattle.ground.proofs.Laws.Choice.{cond-elim, or-elim, between-true, no-case}
 use Rattle.ground.proofs.Laws.Table.{lists, entry}
 use Rattle.wire_spec.specs.Stuffing.{special}
-use Rattle.wire_spec.proofs.Laws.Stuffing.{plain-is}
-use Rattle.link_spec.specs.Address.{isMaster, isBroadcast, isOwn, isNever, isStation, takes}
+use Rattle.wire_spec.proofs.Laws.Stuffing.{plain-is, special-is}
+use Rattle.link_spec.specs.Address.{isMaster, isBroadcast, isOwn, isNever, isStation, takes, Never, NoStation, broadcast, never}
 
 -- what the test finds of every byte holds of each
 each-byte : (f : ℕ → ℕ) → lists f 0 (replicate 0x100 1) ≡ true → (a : ℕ) → a < 0x100 → f a ≡ 1
@@ -39,18 +41,11 @@ same-tests s t test a h = beq-same (s a) (t a) (each-byte (λ (b : ℕ). cond (B
 pub station-is : (a : ℕ) → a < 0x100 → isStation a ≡ not (isBroadcast a) && leb a 0xFC
 station-is = same-tests (λ (a : ℕ). isStation a) (λ (a : ℕ). not (isBroadcast a) && leb a 0xFC) refl
 
--- so what no station may have is broadcast or never an address
-pub station-kinds : (a : ℕ) → a < 0x100 → (why : ℕ) → cond (isStation a) 0 why ≡ cond (isBroadcast a || isNever a) why 0
-station-kinds a h why =
-    rw (same-tests (λ (b : ℕ). isStation b) (λ (b : ℕ). not (isBroadcast b || isNever b)) refl a h)
-    (cond-not (isBroadcast a || isNever a) 0 why)
-
 -- a station takes no byte that stuffing changes
 own-lt : (a : ℕ) → isOwn a ≡ true → a < 0xFD
 own-lt a =
     or-elim (leb 0x01 a && leb a 0x7E) (leb 0x80 a && leb a 0xFC)
-    (λ t. omega (arith, leb-true a 0x7E (and-eq-true-iff (leb 0x01 a) (leb a 0x7E) .0 t .1)))
-    (λ t. omega (arith, leb-true a 0xFC (and-eq-true-iff (leb 0x80 a) (leb a 0xFC) .0 t .1)))
+    (λ t. omega (arith, between-true 0x01 0x7E a t)) (λ t. omega (arith, between-true 0x80 0xFC a t))
 
 station-lt : (own : ℕ) → isStation own ≡ true → own < 0xFD
 station-lt own = or-elim (isMaster own) (isOwn own) (λ t. omega (arith, eqb-true own 0x00 t)) (own-lt own)
@@ -64,3 +59,30 @@ takes-lt own a good =
 
 pub takes-plain : (own a : ℕ) → isStation own ≡ true → takes own a ≡ true → special a ≡ false
 takes-plain own a good taken = plain-is a (takes-lt own a good taken)
+
+-- ---- what is refused, in numbers
+
+pub never-is : (a : ℕ) → (isNever a ≡ true) ↔ Never a
+never-is a = (
+  or-elim (eqb a 0xFD || eqb a 0xFE) (eqb a 0xFF)
+      (or-elim (eqb a 0xFD) (eqb a 0xFE) (λ t. one 0xFD (omega arith) (omega arith) t) (λ t. one 0xFE (omega arith) (omega arith) t))
+      (λ t. one 0xFF (omega arith) (omega arith) t),
+  λ n. special-is a (n .0) (omega (arith, n .1)),
+)
+  where
+    one : (x : ℕ) → 0xFD ≤ x → x ≤ 0xFF → eqb a x ≡ true → Never a
+    one x least most t = rw (eqb-true a x t) (least, most)
+
+pub no-station-is : (own : ℕ) → (isStation own ≡ false) ↔ NoStation own
+no-station-is own = (λ none. of none (decLe 0xFD own), back)
+  where
+    of : isStation own ≡ false → Dec (0xFD ≤ own) → NoStation own
+    of none (yes least) = never least
+    of none (no few) =
+        let other : not (isBroadcast own) ≡ false =
+        rw (le-leb own 0xFC (omega arith), and-true) at (sym (station-is own (omega arith)) ∙ none) in
+        rw (eqb-true own 0x7F (not-false (isBroadcast own) other)) broadcast
+
+    back : {a : ℕ} → NoStation a → isStation a ≡ false
+    back broadcast = refl
+    back {a} (never least) = not-eq-not {b = false} .0 (λ (t : isStation a ≡ true). omega (arith, station-lt a t))

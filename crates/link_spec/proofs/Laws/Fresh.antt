@@ -1,26 +1,34 @@
 -- Fresh receivers: which stations have one, and that it is outside a frame, with a record that no call refuses.
 -- Assumes nothing.
 use mathlib.Core.Path.{_≡_, refl, sym, ap, subst⁻¹, _∙_}
-use mathlib.Core.Bool.{Bool, true, false, cond, _||_}
-use Prim.Native.Nat.{ℕ, _<_}
+use mathlib.Core.Bool.{Bool, true, false, cond, true≢false, not-eq-not}
+use Prim.Native.Nat.{ℕ}
 use native.Mathlib.Omega.{arith}
 use Rattle.ground.specs.declared.refusal.Refusal.the-variants.{None, BadAddress}
 use Rattle.ground.specs.Refusals.{number}
+use Rattle.ground.proofs.Laws.Choice.{by-test}
 use Rattle.link_spec.specs.declared.station.Station.{Station}
 use Rattle.link_spec.specs.declared.station.Station.the-variants.{Point, Addressed}
 use Rattle.link_spec.specs.declared.receiver.Receiver.{Receiver}
-use Rattle.link_spec.specs.Address.{isBroadcast, isNever, isStation}
+use Rattle.link_spec.specs.Address.{isStation}
 use Rattle.link_spec.specs.Station.{hasAddress}
-use Rattle.link_spec.specs.Receiving.{freshReceiver, Made, freshMade, badReceiver}
+use Rattle.link_spec.specs.Receiving.{freshReceiver, Made, freshMade, badReceiver, NewTable, badAddress, fresh}
 use Rattle.link_spec.specs.Hearing.{IsFresh, point, addressed}
-use Rattle.link_spec.proofs.Laws.Address.{station-kinds}
+use Rattle.link_spec.proofs.Laws.Address.{no-station-is}
 use Rattle.link_spec.proofs.Laws.Fit.{Fit, fresh-fit, fit-good}
 use Rattle.link_spec.proofs.Laws.View.{nowhere, seen}
 
 -- row 3 of the refusal table: a new station given 7F or FD..FF, and only then
-pub refuses-new : (a : ℕ) → a < 0x100 → freshMade a .refusal ≡ cond (isBroadcast a || isNever a) (number BadAddress) 0
+pub refuses-new : (own : ℕ) → NewTable own (freshMade own)
 unfolding freshMade
-refuses-new a byte = station-kinds a byte (number BadAddress)
+refuses-new own =
+    by-test (λ (t : Bool). NewTable own (record { refusal = cond t 0 (number BadAddress); receiver = freshReceiver (Addressed own) }))
+    (isStation own) (λ good. fresh (λ none. true≢false (sym good ∙ no-station-is own .1 none))) (λ bad. badAddress (no-station-is own .0 bad))
+
+pub new-only : {own : ℕ} {m : Made} → NewTable own m → m ≡ freshMade own
+unfolding freshMade
+new-only {own} (badAddress none) = rw (no-station-is own .1 none)
+new-only {own} (fresh some) = rw (not-eq-not {b = true} .0 (λ (bad : isStation own ≡ false). some (no-station-is own .0 bad)))
 
 -- refused or not, what comes with it
 pub receiver-made : (own : ℕ) → freshMade own .receiver ≡ freshReceiver (Addressed own)

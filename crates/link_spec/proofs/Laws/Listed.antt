@@ -4,6 +4,7 @@
 use mathlib.Core.Path.{_≡_, refl, sym, ap, subst, subst⁻¹, _∙_}
 use mathlib.Core.Bool.{Bool, true, false}
 use mathlib.Core.List.{List, [], _∷_, _++_, List·Memᴰ}
+use mathlib.Core.Logic.{Iff·rfl}
 use Prim.Native.Nat.{ℕ, _+_, _≤_}
 use native.Mathlib.Omega.{arith}
 use lib.ListN.{length, take, drop}
@@ -26,7 +27,7 @@ use Rattle.link_spec.specs.Frame.{pointContent, addressedContent}
 use Rattle.link_spec.specs.Writers.{writtenUnless, pointWritten, addressedWritten, WriterTable, tooLong, badAddress, noRoom, frame}
 use Rattle.link_spec.specs.Events.{FRAME}
 use Rattle.link_spec.specs.Hearing.{Told, toldAt, IsFresh, Hearing}
-use Rattle.link_spec.specs.Listing.{Fields, onPoint, onAddressed, IsImage}
+use Rattle.link_spec.specs.Fields.{Fields, onPoint, onAddressed, IsImage}
 use Rattle.link_spec.proofs.Laws.Address.{takes-lt}
 use Rattle.link_spec.proofs.Laws.Frame.{length-point, length-addressed}
 use Rattle.link_spec.proofs.Laws.Writers.{by-table, point-writes, addressed-writes}
@@ -41,7 +42,7 @@ record Wrote («data» content : List ℕ) (w : After) : Type 0 where
   bytes : take (w .tally .count) (w .out) ≡ image content
   counts : w .tally .count ≡ length (image content)
 
-table-wrote : {never : Bool} {«data» content out : List ℕ} {w : After} → WriterTable never «data» content out w → w .tally .refusal ≡ 0
+table-wrote : {Refused : Type 0} {«data» content out : List ℕ} {w : After} → WriterTable Refused «data» content out w → w .tally .refusal ≡ 0
     → Wrote «data» content w
 table-wrote (tooLong long) none = absurd (omega arith)
 table-wrote (badAddress fits bad) none = absurd (omega arith)
@@ -54,23 +55,22 @@ wrote : (never : Bool) («data» content out : List ℕ) (r : Counted) {out′ :
     → Wrote «data» content (after r out′)
 wrote never «data» content out r says none =
     subst⁻¹ (Wrote «data» content) says
-    (table-wrote (by-table never «data» content out) (sym (ap (λ (a : After). a .tally .refusal) says) ∙ none))
+    (table-wrote (by-table never Iff·rfl «data» content out) (sym (ap (λ (a : After). a .tally .refusal) says) ∙ none))
 
--- the image of a content with its check, put anywhere into any stream, is told there, and so is what a writer wrote
-module _ (station : Station) (front «data» before rest : List ℕ) (long : length (checked station front) ≡ leastContent + length «data»)
-    (taken : Taken station (checked station front)) {s : Receiver} {all : List Told} (fr : IsFresh station s) where
-  image-listed : length «data» ≤ mostData → let bytes = image (checked station front) in
-      Hearing (before ++ (bytes ++ rest)) s 0 all
-      → List·Memᴰ (toldAt (length before + length bytes) FRAME front) all
-  image-listed fits h =
-      hearing-lists fr h .each (length before + length (image (checked station front))) front
-      (record { before = before; after = rest; split = refl; ends = refl; least = omega arith; most = omega arith; address = taken })
+-- the image of a content with its check, put anywhere into any stream, is listed there
+image-listed : (station : Station) (front «data» before rest : List ℕ) → length (checked station front) ≡ leastContent + length «data»
+    → length «data» ≤ mostData
+    → Taken station (checked station front)
+    → {s : Receiver} {all : List Told}
+    → IsFresh station s
+    → let bytes = image (checked station front) in
+    Hearing (before ++ (bytes ++ rest)) s 0 all
+    → List·Memᴰ (toldAt (length before + length bytes) FRAME front) all
+image-listed station front «data» before rest long fits taken fr h =
+    hearing-lists fr h .each (length before + length (image (checked station front))) front
+    (record { before = before; after = rest; split = refl; ends = refl; least = omega arith; most = omega arith; address = taken })
 
-  wrote-listed : {w : After} → Wrote «data» (checked station front) w → Hearing (before ++ (take (w .tally .count) (w .out) ++ rest)) s 0 all
-      → List·Memᴰ (toldAt (length before + w .tally .count) FRAME front) all
-  wrote-listed w h =
-      rw (w .counts) (image-listed (w .fits) (subst (λ (l : List ℕ). Hearing (before ++ (l ++ rest)) s 0 all) (w .bytes) h))
-
+-- the same of each line's frames, whoever wrote them
 pub point-image-listed : (identifier command : ℕ) («data» before rest : List ℕ) {s : Receiver} {all : List Told}
     → length «data» ≤ mostData
     → IsFresh Point s
@@ -78,20 +78,41 @@ pub point-image-listed : (identifier command : ℕ) («data» before rest : List
     Hearing (before ++ (bytes ++ rest)) s 0 all
     → List·Memᴰ (toldAt (length before + length bytes) FRAME (identifier ∷ command ∷ «data»)) all
 unfolding pointContent
-point-image-listed identifier command «data» before rest fits fr =
-    image-listed Point (identifier ∷ command ∷ «data») «data» before rest (length-point identifier command «data») tt fr fits
+point-image-listed identifier command «data» before rest fits =
+    image-listed Point (identifier ∷ command ∷ «data») «data» before rest (length-point identifier command «data») fits tt
 
--- every image that a writer wrote, put anywhere into any stream, is listed there with what was written
+pub addressed-image-listed : (own address identifier command : ℕ) («data» before rest : List ℕ) {s : Receiver} {all : List Told}
+    → length «data» ≤ mostData
+    → takes own address ≡ true
+    → IsFresh (Addressed own) s
+    → let bytes = image (addressedContent address identifier command «data») in
+    Hearing (before ++ (bytes ++ rest)) s 0 all
+    → List·Memᴰ (toldAt (length before + length bytes) FRAME (address ∷ identifier ∷ command ∷ «data»)) all
+unfolding addressedContent withCheck
+addressed-image-listed own address identifier command «data» before rest fits taken =
+    image-listed (Addressed own) (address ∷ identifier ∷ command ∷ «data») «data» before rest
+    (length-addressed address identifier command «data») fits taken
+
+-- so every image that a writer wrote, put anywhere into any stream, is listed there with what was written
+wrote-listed : {«data» content : List ℕ} {w : After} (front before rest : List ℕ) {s : Receiver} {all : List Told}
+    → Wrote «data» content w
+    → (length «data» ≤ mostData → Hearing (before ++ (image content ++ rest)) s 0 all
+    → List·Memᴰ (toldAt (length before + length (image content)) FRAME front) all)
+    → Hearing (before ++ (take (w .tally .count) (w .out) ++ rest)) s 0 all
+    → List·Memᴰ (toldAt (length before + w .tally .count) FRAME front) all
+wrote-listed front before rest {s} {all} w listed h =
+    rw (w .counts) (listed (w .fits) (subst (λ (l : List ℕ). Hearing (before ++ (l ++ rest)) s 0 all) (w .bytes) h))
+
 pub point-listed : (r : Counted) (identifier command : ℕ) («data» out out′ before rest : List ℕ) {s : Receiver} {all : List Told}
     → after r out′ ≡ pointWritten identifier command «data» out
     → tally r .refusal ≡ 0
     → IsFresh Point s
     → Hearing (before ++ (take (r .count) out′ ++ rest)) s 0 all
     → List·Memᴰ (toldAt (length before + r .count) FRAME (identifier ∷ command ∷ «data»)) all
-unfolding pointWritten pointContent
+unfolding pointWritten
 point-listed r identifier command «data» out out′ before rest says none fr =
-    wrote-listed Point (identifier ∷ command ∷ «data») «data» before rest (length-point identifier command «data») tt fr
-    (wrote false «data» (pointContent identifier command «data») out r says none)
+    wrote-listed (identifier ∷ command ∷ «data») before rest (wrote false «data» (pointContent identifier command «data») out r says none)
+    (λ fits. point-image-listed identifier command «data» before rest fits fr)
 
 pub addressed-listed : (r : Counted) (own address identifier command : ℕ)
     («data» out out′ before rest : List ℕ) {s : Receiver} {all : List Told}
@@ -101,11 +122,11 @@ pub addressed-listed : (r : Counted) (own address identifier command : ℕ)
     → IsFresh (Addressed own) s
     → Hearing (before ++ (take (r .count) out′ ++ rest)) s 0 all
     → List·Memᴰ (toldAt (length before + r .count) FRAME (address ∷ identifier ∷ command ∷ «data»)) all
-unfolding addressedWritten addressedContent withCheck
+unfolding addressedWritten
 addressed-listed r own address identifier command «data» out out′ before rest says none taken fr =
-    wrote-listed (Addressed own) (address ∷ identifier ∷ command ∷ «data») «data» before rest
-    (length-addressed address identifier command «data») taken fr
+    wrote-listed (address ∷ identifier ∷ command ∷ «data») before rest
     (wrote (isNever address) «data» (addressedContent address identifier command «data») out r says none)
+    (λ fits. addressed-image-listed own address identifier command «data» before rest fits taken fr)
 
 -- ---- the desk's side
 

@@ -1,27 +1,31 @@
 -- Laws of one call of a receiver: its refusals, what it takes and what it carries, and how its loop goes.
 -- Assumes nothing.
 use mathlib.Core.Path.{_≡_, refl, sym, subst⁻¹, _∙_}
-use mathlib.Core.Bool.{Bool, true, false, cond, not, or-true, true≢false, false≢true}
+use mathlib.Core.Bool.{Bool, true, false, cond, not, or-true, true≢false, false≢true, not-eq-not}
 use mathlib.Core.List.{List, [], _∷_}
+use mathlib.Core.Logic.{_↔_}
 use Prim.Native.Nat.{ℕ, _+_, _≤_, _<_, zero-le}
 use native.Mathlib.Omega.{arith}
 use lib.Dec.{ltb}
 use lib.ListN.{length, drop, getD, length-take, drop-of-length-le}
-use borrow.Author.Tests.{lt-ltb, le-ltb, ltb-false}
+use borrow.Author.Tests.{lt-ltb, le-ltb, ltb-true, ltb-false, not-true}
 use Rattle.ground.specs.declared.refusal.Refusal.the-variants.{None, BadState}
 use Rattle.ground.specs.Refusals.{number, Keeps}
-use Rattle.ground.proofs.Laws.Choice.{cond-elim, by-test, or-none}
+use Rattle.ground.proofs.Laws.Choice.{cond-elim, by-test, or-elim, or-none}
 use Rattle.ground.proofs.Laws.Lists.{drop-next}
 use Rattle.checks.specs.declared.kind.Check.{Check}
 use Rattle.wire_spec.specs.Limits.{mostContent}
 use Rattle.link_spec.specs.declared.event.Verdict.{Verdict}
+use Rattle.link_spec.specs.declared.station.Station.{Station}
+use Rattle.link_spec.specs.declared.station.Station.the-variants.{Point, Addressed}
 use Rattle.link_spec.specs.declared.receiver.Turn.{Turn}
 use Rattle.link_spec.specs.declared.receiver.Turn.the-variants.{Rest, Begin, Wait, Keep, Stop, Tell}
 use Rattle.link_spec.specs.declared.receiver.Receiver.{Receiver}
 use Rattle.link_spec.specs.declared.receiver.Heard.{Heard}
 use Rattle.link_spec.specs.Station.{checkOn, hasAddress}
 use Rattle.link_spec.specs.Events.{NONE, named, happened, silent, verdict}
-use Rattle.link_spec.specs.Receiving.{soFar, turnAt, moved, hasEvent, outcome, outcomeAt, saidOf, heard, badReceiver, notHeard, Said, saying, received}
+use Rattle.link_spec.specs.Receiving.{soFar, turnAt, moved, hasEvent, outcome, outcomeAt, saidOf, heard, badReceiver, notHeard, Said, saying, received, BadReceiver, over, noStation, ReceiverTable, badState, hearsPiece}
+use Rattle.link_spec.proofs.Laws.Address.{no-station-is}
 use Rattle.link_spec.proofs.Laws.Turning.{Sound}
 use Rattle.link_spec.proofs.Laws.Events.{by-stop}
 use Rattle.link_spec.proofs.Laws.Fit.{outcome-length, Leaves, leaves-all, leaves-then, sound-at, leaves-at, Fit, fit-moved}
@@ -45,10 +49,25 @@ module _ (P : ℕ → Receiver → List ℕ → Said → Type 0)
 
 -- ---- row 4 of the refusal table: when, and else the piece is heard
 
+bad-is : (s : Receiver) → (badReceiver s ≡ true) ↔ BadReceiver s
+bad-is s = (
+  or-elim (ltb mostContent (s .count)) (not (hasAddress (s .station))) (λ t. over (ltb-true mostContent (s .count) t))
+      (λ t. of (s .station) refl (not-true (hasAddress (s .station)) t)),
+  back,
+)
+  where
+    of : (station : Station) → s .station ≡ station → hasAddress station ≡ false → BadReceiver s
+    of Point is bad = absurd (true≢false bad)
+    of (Addressed own) is bad = noStation is (no-station-is own .0 bad)
+
+    back : BadReceiver s → badReceiver s ≡ true
+    back (over many) = rw (lt-ltb mostContent (s .count) many)
+    back (noStation {own} is bad) = rw (is, no-station-is own .1 bad, or-true)
+
 module _ (s : Receiver) (piece : List ℕ) where
   pub refuses-count : mostContent < s .count → received s piece ≡ notHeard s
   unfolding received
-  refuses-count over = rw (lt-ltb mostContent (s .count) over)
+  refuses-count many = rw (lt-ltb mostContent (s .count) many)
 
   pub refuses-station : hasAddress (s .station) ≡ false → received s piece ≡ notHeard s
   unfolding received
@@ -64,6 +83,16 @@ module _ (s : Receiver) (piece : List ℕ) where
 
   pub hears-piece : s .count ≤ mostContent → hasAddress (s .station) ≡ true → received s piece ≡ heard 0 s piece
   hears-piece within good = hears (rw (le-ltb mostContent (s .count) within, good))
+
+  pub by-table : ReceiverTable s piece (received s piece)
+  unfolding received
+  by-table =
+      cond-elim (ReceiverTable s piece) (badReceiver s) (λ bad. badState (bad-is s .0 bad))
+      (λ good. hearsPiece (λ bad. true≢false (sym (bad-is s .1 bad) ∙ good)))
+
+  pub table-only : {said : Said} → ReceiverTable s piece said → said ≡ received s piece
+  table-only (badState bad) = sym (refuses-bad (bad-is s .1 bad))
+  table-only (hearsPiece good) = sym (hears (not-eq-not {b = false} .0 (λ (bad : badReceiver s ≡ true). good (bad-is s .0 bad))))
 
   -- and only then
   pub refused-only : received s piece .refusal ≡ cond (badReceiver s) (number BadState) 0

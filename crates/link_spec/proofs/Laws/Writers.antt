@@ -1,8 +1,9 @@
 -- The writers answer by the refusal table, and write the image of every frame that no row of it names.
 -- Assumes nothing.
 use mathlib.Core.Path.{_≡_, refl, sym, _∙_}
-use mathlib.Core.Bool.{Bool, true, false}
+use mathlib.Core.Bool.{Bool, true, false, true≢false, false≢true, not-eq-not}
 use mathlib.Core.List.{List, _++_}
+use mathlib.Core.Logic.{_↔_}
 use Prim.Native.Nat.{ℕ, _+_, _≤_, _<_}
 use native.Mathlib.Omega.{arith}
 use lib.Dec.{ltb}
@@ -21,7 +22,8 @@ use Rattle.wire_spec.proofs.Laws.Frame.{frame-within, frame-over}
 use Rattle.link_spec.specs.Limits.{leastContent, mostData}
 use Rattle.link_spec.specs.Address.{isNever}
 use Rattle.link_spec.specs.Frame.{pointContent, addressedContent}
-use Rattle.link_spec.specs.Writers.{writtenUnless, pointWritten, addressedWritten, WriterTable, tooLong, badAddress, noRoom, frame}
+use Rattle.link_spec.specs.Writers.{writtenUnless, pointWritten, addressedWritten, WriterTable, tooLong, badAddress, noRoom, frame, PointTable, AddressedTable}
+use Rattle.link_spec.proofs.Laws.Address.{never-is}
 
 module _ (never : Bool) («data» content out : List ℕ) where
   -- ---- when: each row, and the frame where no row applies
@@ -56,27 +58,32 @@ module _ (never : Bool) («data» content out : List ℕ) where
       P : After → Type 0
       P a = Keeps (a .tally .refusal) out (a .out)
 
-  -- ---- and only then: of the answer that was given, the row's conditions hold
+-- ---- and only then: of the answer that was given, the row's conditions hold
 
-  pub by-table : WriterTable never «data» content out (writtenUnless never «data» content out)
+module _ {Refused : Type 0} (never : Bool) (is : (never ≡ true) ↔ Refused) («data» content out : List ℕ) where
+  pub by-table : WriterTable Refused «data» content out (writtenUnless never «data» content out)
   unfolding writtenUnless imageWritten
   by-table =
       cond-elim P (ltb mostData (length «data»)) (λ t. tooLong (ltb-true mostData (length «data») t))
       (λ f. let fits = ltb-false mostData (length «data») f in
-      cond-elim P never (badAddress fits)
-      (λ a. cond-elim P (ltb (length out) (length (image content)))
-      (λ t. noRoom fits a (ltb-true (length out) (length (image content)) t))
-      (λ g. frame fits a (ltb-false (length out) (length (image content)) g))))
+      cond-elim P never (λ bad. badAddress fits (is .0 bad))
+      (λ good. let none : Refused → ⊥ = λ r. true≢false (sym (is .1 r) ∙ good) in
+      cond-elim P (ltb (length out) (length (image content)))
+      (λ t. noRoom fits none (ltb-true (length out) (length (image content)) t))
+      (λ g. frame fits none (ltb-false (length out) (length (image content)) g))))
     where
       P : After → Type 0
-      P = WriterTable never «data» content out
+      P = WriterTable Refused «data» content out
 
   -- so the table has one answer for each input
-  pub table-only : {w : After} → WriterTable never «data» content out w → w ≡ writtenUnless never «data» content out
-  table-only (tooLong long) = sym (refuses-length long)
-  table-only (badAddress fits bad) = sym (refuses-address fits bad)
-  table-only (noRoom fits good short) = sym (refuses-room fits good short)
-  table-only (frame fits good room) = sym (writes fits good room)
+  good-is : (Refused → ⊥) → never ≡ false
+  good-is none = not-eq-not {b = false} .0 (λ bad. none (is .0 bad))
+
+  pub table-only : {w : After} → WriterTable Refused «data» content out w → w ≡ writtenUnless never «data» content out
+  table-only (tooLong long) = sym (refuses-length never «data» content out long)
+  table-only (badAddress fits bad) = sym (refuses-address never «data» content out fits (is .1 bad))
+  table-only (noRoom fits good short) = sym (refuses-room never «data» content out fits (good-is good) short)
+  table-only (frame fits good room) = sym (writes never «data» content out fits (good-is good) room)
 
 -- a frame whose head makes the least content with its check is refused just where the data is over its limit: it is what a writer answers
 -- that has no address to refuse
@@ -90,10 +97,17 @@ frame-written check head «data» out least =
 
 -- ---- the same of each writer
 
+no-address : (false ≡ true) ↔ ⊥
+no-address = (λ e. false≢true e, λ none. absurd none)
+
 module _ (identifier command : ℕ) («data» out : List ℕ) where
-  pub point-by-table : WriterTable false «data» (pointContent identifier command «data») out (pointWritten identifier command «data» out)
+  pub point-by-table : PointTable identifier command «data» out (pointWritten identifier command «data» out)
   unfolding pointWritten
-  point-by-table = by-table false «data» (pointContent identifier command «data») out
+  point-by-table = by-table false no-address «data» (pointContent identifier command «data») out
+
+  pub point-only : {w : After} → PointTable identifier command «data» out w → w ≡ pointWritten identifier command «data» out
+  unfolding pointWritten
+  point-only = table-only false no-address «data» (pointContent identifier command «data») out
 
   pub point-keeps : Keeps (pointWritten identifier command «data» out .tally .refusal) out (pointWritten identifier command «data» out .out)
   unfolding pointWritten
@@ -111,10 +125,14 @@ module _ (identifier command : ℕ) («data» out : List ℕ) where
   point-writes fits room = writes false «data» (pointContent identifier command «data») out fits refl room
 
 module _ (address identifier command : ℕ) («data» out : List ℕ) where
-  pub addressed-by-table : WriterTable (isNever address) «data» (addressedContent address identifier command «data») out
-      (addressedWritten address identifier command «data» out)
+  pub addressed-by-table : AddressedTable address identifier command «data» out (addressedWritten address identifier command «data» out)
   unfolding addressedWritten
-  addressed-by-table = by-table (isNever address) «data» (addressedContent address identifier command «data») out
+  addressed-by-table = by-table (isNever address) (never-is address) «data» (addressedContent address identifier command «data») out
+
+  pub addressed-only : {w : After} → AddressedTable address identifier command «data» out w
+      → w ≡ addressedWritten address identifier command «data» out
+  unfolding addressedWritten
+  addressed-only = table-only (isNever address) (never-is address) «data» (addressedContent address identifier command «data») out
 
   pub addressed-keeps : Keeps (addressedWritten address identifier command «data» out .tally .refusal) out
       (addressedWritten address identifier command «data» out .out)

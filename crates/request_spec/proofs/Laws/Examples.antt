@@ -15,5 +15,5 @@ unfolding parameterWith isValueOf highFirst acceptance header requestWritten dat
 each-holds =
     refl and refl and refl and refl and refl and refl and refl and refl and refl and refl and refl and refl and refl
     and refl and refl and refl and refl and refl and refl and refl and refl and refl and refl and refl and refl
-    and refl and refl and refl and refl and refl
+    and refl and refl and refl and refl and refl and refl and refl
     and none

@@ -16,7 +16,7 @@ use Rattle.wire_spec.proofs.Laws.Writing.{written-keeps}
 use Rattle.link_spec.specs.declared.station.Station.the-variants.{Point}
 use Rattle.link_spec.specs.declared.receiver.Receiver.{Receiver}
 use Rattle.link_spec.specs.Frame.{pointContent}
-use Rattle.link_spec.specs.Writers.{pointWritten, WriterTable, tooLong, badAddress, noRoom, frame}
+use Rattle.link_spec.specs.Writers.{pointWritten, PointTable, tooLong, badAddress, noRoom, frame}
 use Rattle.link_spec.specs.Events.{FRAME}
 use Rattle.link_spec.specs.Hearing.{Told, toldAt, IsFresh, Hearing}
 use Rattle.link_spec.proofs.Laws.Writers.{point-goes-on, point-by-table}
@@ -64,7 +64,7 @@ module _ (identifier code : ℕ) («data» out : List ℕ) where
   pub refused-asks : requestWritten identifier code «data» out .tally .refusal ≡ 5 → isAccepted (acceptance code «data») ≡ false
   refused-asks bad = of (either (acceptance code «data»))
     where
-      no-row : {w : After} → WriterTable false «data» (pointContent identifier code «data») out w → w .tally .refusal ≡ 5 → ⊥
+      no-row : {w : After} → PointTable identifier code «data» out w → w .tally .refusal ≡ 5 → ⊥
       no-row (tooLong long) five = omega arith
       no-row (badAddress fits never) five = omega arith
       no-row (noRoom fits good short) five = omega arith

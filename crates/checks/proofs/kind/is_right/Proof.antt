@@ -1,4 +1,4 @@
--- `kind::is_right` meets its contract: what is shorter than its check has none.
+-- `kind::is_right`: a content shorter than its check has none that is right; of a longer one the bytes after the front are compared.
 -- Assumes nothing.
 use mathlib.Core.Path.{sym}
 use native.Mathlib.Omega.{arith}

@@ -1,4 +1,4 @@
--- `kind::stands_behind` meets its contract: byte for byte, what came is the check.
+-- `kind::stands_behind`: each arm compares the bytes after the front, byte for byte, with the check of the front that it names.
 -- Assumes nothing.
 use mathlib.Core.Path.{sym, ap}
 use Prim.Native.Nat.{_+_}

@@ -1,4 +1,4 @@
--- `fcs::fcs` meets its contract: it inverts what `residue` answers.
+-- `register::fcs`: it inverts what `residue` answers.
 -- Assumes nothing.
 use mathlib.Core.Path.{ap}
 use Prim.Native.Nat.{ℕ}

@@ -1,5 +1,5 @@
--- `fcs::residue` meets its contract: to run the register over what is left gives what was asked for. The table's rule is one test,
--- computed over the whole table.
+-- `register::residue`: at each turn, to run the register over the bytes that are left gives what was asked for. The table's rule is one
+-- test, computed over the whole table.
 -- Assumes nothing.
 use mathlib.Core.Path.{_≡_, refl, sym, ap, _∙_}
 use Prim.Native.Nat.{ℕ, _+_, _-_, _/_, _%_, _≤_, _<_}

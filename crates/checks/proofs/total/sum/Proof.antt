@@ -1,4 +1,4 @@
--- `sum::sum` meets its contract: the total so far and that of what is left are the total of all bytes, modulo 256.
+-- `total::sum`: at each turn, the total so far and that of the bytes that are left make the total of all bytes, modulo 256.
 -- Assumes nothing.
 use mathlib.Core.Path.{_≡_, ap}
 use Prim.Native.Nat.{_+_, _-_, _%_, _≤_, _<_}

@@ -1,4 +1,4 @@
--- `laying::put` meets its contract: it refuses as the definition does, and else lays the bytes.
+-- `laying::put`: its test is that of `put`, fewer places from `at` on than bytes; where there are enough, `lay` lays the bytes.
 -- Assumes nothing.
 use mathlib.Core.Path.{refl, sym, _∙_}
 use native.Mathlib.Omega.{arith}

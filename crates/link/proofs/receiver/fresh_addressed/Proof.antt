@@ -1,4 +1,4 @@
--- `receiver::fresh_addressed` meets its contract.
+-- `receiver::fresh_addressed`: `is_station` answers the test of `freshMade`, and the receiver is a fresh one either way.
 -- Assumes nothing.
 use mathlib.Core.Path.{sym, _∙_}
 use borrow.Author.Needs.{needs}

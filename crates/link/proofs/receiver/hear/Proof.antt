@@ -1,4 +1,4 @@
--- `receiver::hear` meets its contract: what is left of the piece gives what the whole piece gives.
+-- `receiver::hear`: at each turn, the bytes that are left give, from the receiver so far, what the whole piece gives from the first.
 -- Assumes nothing.
 use mathlib.Core.Path.{_≡_, refl, sym, ap, subst⁻¹, _∙_}
 use mathlib.Core.Logic.{⊎-elim}

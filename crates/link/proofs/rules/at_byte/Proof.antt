@@ -1,4 +1,4 @@
--- `turn::at_byte` meets its contract: FD first, then by where the receiver is.
+-- `rules::at_byte`: the tests that led to each `return` are those of `turn` and `within`: FD first, then where the receiver is.
 -- Assumes nothing.
 use borrow.Author.Tests.{eq-eqb, ne-eqb}
 use borrow.Author.Needs.{needs}

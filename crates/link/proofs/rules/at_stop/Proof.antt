@@ -1,4 +1,4 @@
--- `event::at_stop` meets its contract.
+-- `rules::at_stop`: its two tests, on the length and on the check, are those of `verdict`, and 4 bytes are more than any check has.
 -- Assumes nothing.
 use mathlib.Core.Path.{sym, _∙_}
 use native.Mathlib.Omega.{arith}

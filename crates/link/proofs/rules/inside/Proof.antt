@@ -1,4 +1,4 @@
--- `turn::inside` meets its contract: its tests are those of rules 1 and 2.
+-- `rules::inside`: the tests that led to each `return` are those of rule 1 and, on the addressed line, of rule 2.
 -- Assumes nothing.
 use mathlib.Core.Path.{sym, _∙_}
 use native.Mathlib.Omega.{arith}

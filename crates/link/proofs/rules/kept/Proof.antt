@@ -1,4 +1,4 @@
--- `turn::kept` meets its contract.
+-- `rules::kept`: its test is that of rule 4, fewer than 64 content bytes or not.
 -- Assumes nothing.
 use borrow.Author.Tests.{lt-ltb, le-ltb}
 use Rattle.link_spec.specs.Turning.{kept}

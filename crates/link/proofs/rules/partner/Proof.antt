@@ -1,4 +1,4 @@
--- `turn::partner` meets its contract.
+-- `rules::partner`: its test is that of rule 3, a partner up to 02 or not.
 -- Assumes nothing.
 use borrow.Author.Tests.{le-leb, lt-leb}
 use borrow.Author.Needs.{needs}

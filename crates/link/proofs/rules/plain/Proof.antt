@@ -1,4 +1,4 @@
--- `turn::plain` meets its contract.
+-- `rules::plain`: its test is that of rule 3, FF or not.
 -- Assumes nothing.
 use borrow.Author.Tests.{eq-eqb, ne-eqb}
 use borrow.Author.Needs.{needs}

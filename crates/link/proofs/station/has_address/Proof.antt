@@ -1,4 +1,4 @@
--- `line::has_station` meets its contract.
+-- `station::has_address`: each arm answers the case of `hasAddress` that its station names.
 -- Assumes nothing.
 use borrow.Author.Needs.{needs}
 use Rattle.link.proofs.station.has_address.Statement.{statement}

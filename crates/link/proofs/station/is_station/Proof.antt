@@ -1,4 +1,5 @@
--- `line::is_station` meets its contract.
+-- `station::is_station`: of a byte its two tests, not 7F and at most FC, are those of `isStation`, which names the addresses that a station
+-- may have.
 -- Assumes nothing.
 use borrow.Author.Tests.{ne-eqb}
 use Rattle.link_spec.proofs.Laws.Address.{station-is}

@@ -1,4 +1,4 @@
--- `line::takes` meets its contract.
+-- `station::takes`: the tests that led to each `return` are those of `takes`: the master's own address first, then the reader's.
 -- Assumes nothing.
 use borrow.Author.Tests.{eq-eqb, ne-eqb}
 use Rattle.link_spec.specs.Address.{takes}

@@ -1,4 +1,4 @@
--- `reading::data_of` meets its contract.
+-- `reading::data_of`: a content of fewer than two bytes has none after them, and the part from index two on is all that a longer one has.
 -- Assumes nothing.
 use Prim.Native.Nat.{_≤_}
 use native.Mathlib.Omega.{arith}

@@ -1,4 +1,4 @@
--- `reading::is_due` meets its contract.
+-- `reading::is_due`: each arm answers the case of `isDue` that its command names.
 -- Assumes nothing.
 use borrow.Author.Needs.{needs}
 use Rattle.master.proofs.reading.is_due.Statement.{statement}

@@ -1,4 +1,4 @@
--- `reading::is_nack` meets its contract.
+-- `reading::is_nack`: its two tests are the limits of `isNack`.
 -- Assumes nothing.
 use borrow.Author.Tests.{lt-leb, le-leb}
 use Rattle.master.proofs.reading.is_nack.Statement.{statement}

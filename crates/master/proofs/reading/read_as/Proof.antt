@@ -1,4 +1,4 @@
--- `reading::read_as` meets its contract: each test is a row of the refusal table.
+-- `reading::read_as`: the tests that led to each `return` say which row of the refusal table, 6 or 7, applies, or that neither does.
 -- Assumes nothing.
 use borrow.Author.Needs.{needs}
 use Rattle.ground.proofs.Laws.Lists.{take-rest}

@@ -1,4 +1,4 @@
--- `reading::read_data` meets its contract.
+-- `reading::read_data`: its test is that of `dataRead`, whether data of this length is due.
 -- Assumes nothing.
 use mathlib.Core.Path.{sym, _∙_}
 use borrow.Author.Needs.{needs}

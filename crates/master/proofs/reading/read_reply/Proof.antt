@@ -1,4 +1,4 @@
--- `reading::read_reply` meets its contract.
+-- `reading::read_reply`: what `accept` answers is what is accepted, and each arm answers the case of `readBy` that it names.
 -- Assumes nothing.
 use borrow.Author.Needs.{needs}
 use Rattle.request_spec.specs.Reading.{replyRead}

@@ -1,4 +1,5 @@
--- `reading::read_sign` meets its contract.
+-- `reading::read_sign`: the tests that led to each `return` are those of `signRead` and `reasonRead`: one byte, 55, a write, a NACK's
+-- number.
 -- Assumes nothing.
 use mathlib.Core.Path.{sym, _∙_}
 use borrow.Author.Tests.{eq-eqb, ne-eqb}

@@ -1,4 +1,4 @@
--- `card::is_code` meets its contract.
+-- `card::is_code`: each arm answers the case of `isCode` that its card names.
 -- Assumes nothing.
 use borrow.Author.Needs.{needs}
 use Rattle.request.proofs.card.is_code.Statement.{statement}

@@ -1,4 +1,4 @@
--- `card::is_read` meets its contract.
+-- `card::is_read`: its two tests are the limits of `isRead`.
 -- Assumes nothing.
 use borrow.Author.Tests.{lt-leb, le-leb}
 use Rattle.request.proofs.card.is_read.Statement.{statement}

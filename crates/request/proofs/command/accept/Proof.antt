@@ -1,4 +1,4 @@
--- `command::accept` meets its contract: each code by its own function.
+-- `command::accept`: each arm answers for the code of its test in `acceptance`, and the last for a code that fails them all.
 -- Assumes nothing.
 use borrow.Author.Tests.{ne-eqb}
 use borrow.Author.Needs.{needs}

@@ -1,4 +1,4 @@
--- `command::bare` meets its contract.
+-- `command::accept_bare`: its test, data of no byte or of some, tells the two cases of `bareAccepted` apart.
 -- Assumes nothing.
 use Rattle.request_spec.proofs.Laws.Acceptance.{bare-none, bare-some}
 use Rattle.request.proofs.command.accept_bare.Statement.{statement}

@@ -1,4 +1,4 @@
--- `command::reading` meets its contract.
+-- `command::accept_read`: its tests, on the length and on the parameter's code, tell the cases of `readAccepted` apart.
 -- Assumes nothing.
 use mathlib.Core.Path.{sym, _∙_}
 use borrow.Author.Needs.{needs}

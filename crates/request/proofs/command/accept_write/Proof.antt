@@ -1,4 +1,4 @@
--- `command::writing` meets its contract.
+-- `command::accept_write`: its tests, on the length, the parameter's code and the bytes after it, tell the cases of `writeAccepted` apart.
 -- Assumes nothing.
 use mathlib.Core.Path.{sym, ap, _∙_}
 use borrow.Author.Needs.{needs}

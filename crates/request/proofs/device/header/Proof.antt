@@ -1,4 +1,4 @@
--- `header::header` meets its contract.
+-- `device::header`: the name and the five numbers are laid one after the other, each where the one before it ends, and fill the array.
 -- Assumes nothing.
 use mathlib.Core.Path.{refl}
 use lib.ListN.{replicate}

@@ -1,4 +1,4 @@
--- `header::lay_number` meets its contract.
+-- `device::lay_number`: four bytes stored one after the other are laid as the four of `lowFirst`.
 -- Assumes nothing.
 use native.Mathlib.Omega.{arith}
 use lib.ListN.{length-set}

@@ -1,4 +1,4 @@
--- `parameter::is_speed` meets its contract.
+-- `parameter::is_speed`: its two tests are the limits of `isSpeed`.
 -- Assumes nothing.
 use borrow.Author.Tests.{lt-leb, le-leb}
 use Rattle.request.proofs.parameter.is_speed.Statement.{statement}

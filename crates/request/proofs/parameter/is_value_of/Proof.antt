@@ -1,4 +1,4 @@
--- `parameter::takes` meets its contract.
+-- `parameter::is_value_of`: the length is tried first, and then each arm answers the case of `within` that its parameter names.
 -- Assumes nothing.
 use mathlib.Core.Path.{_∙_}
 use native.Mathlib.Omega.{arith}

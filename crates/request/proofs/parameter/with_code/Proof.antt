@@ -1,4 +1,4 @@
--- `parameter::with_code` meets its contract.
+-- `parameter::with_code`: each arm answers for the code of its test in `parameterWith`, and the last for a code that fails all three.
 -- Assumes nothing.
 use borrow.Author.Tests.{ne-eqb}
 use Rattle.request_spec.specs.Parameters.{parameterWith}

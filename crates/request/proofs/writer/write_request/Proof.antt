@@ -1,4 +1,5 @@
--- `writer::write_request` meets its contract.
+-- `writer::write_request`: what `accept` answers is what is accepted, and data that is accepted is short enough for a frame, so only the
+-- room is left to refuse.
 -- Assumes nothing.
 use mathlib.Core.Path.{sym, ap, _∙_}
 use borrow.Author.Needs.{needs}

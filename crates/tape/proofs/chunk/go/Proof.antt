@@ -1,4 +1,5 @@
--- `chunk::go` meets its contract: what is left of the chunk gives what the whole chunk gives.
+-- `chunk::go`: at each turn, what is left of the chunk gives, from the tape so far, what the whole chunk gives; the loop ends where `going`
+-- stops.
 -- Assumes nothing.
 use mathlib.Core.Path.{_≡_, refl, sym, ap, subst, subst⁻¹, _∙_}
 use mathlib.Core.Logic.{⊎-elim}

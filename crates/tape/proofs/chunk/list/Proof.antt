@@ -1,4 +1,4 @@
--- `chunk::list` meets its contract: a tape that no row of the refusal table names goes over its chunk.
+-- `chunk::list`: its two tests are the rows of the refusal table, in their order, and a tape that neither names goes over its chunk.
 -- Assumes nothing.
 use mathlib.Core.Path.{_≡_, sym, ap, _∙_}
 use mathlib.Core.Bool.{false}

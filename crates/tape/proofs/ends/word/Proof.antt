@@ -1,4 +1,4 @@
--- `ends::word` meets its contract.
+-- `ends::word`: each arm answers the letters that `word` spells for its ending.
 -- Assumes nothing.
 use native.Mathlib.Omega.{arith}
 use borrow.Author.Needs.{needs}

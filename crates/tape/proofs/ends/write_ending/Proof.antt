@@ -1,4 +1,4 @@
--- `ends::write_ending` meets its contract: the line is put together where the longest has room, and then put.
+-- `ends::write_ending`: the row is put together in an array that holds the longest, and then put.
 -- Assumes nothing.
 use mathlib.Core.Path.{_≡_, sym, ap, _∙_}
 use mathlib.Core.List.{List}

@@ -1,4 +1,4 @@
--- `ends::write_header` meets its contract.
+-- `ends::write_header`: the text that is put is that of `headerRow`.
 -- Assumes nothing.
 use borrow.Author.Needs.{needs}
 use Rattle.text.specs.Ascii.{ascii}

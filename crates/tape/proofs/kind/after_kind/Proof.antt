@@ -1,4 +1,4 @@
--- `kind::after_kind`: the tests that led to each `return` are those of `behindKind`, in its order.
+-- `kind::after_kind`: the tests that led to each `return` are those of `afterKind`, in its order.
 -- Assumes nothing.
 use borrow.Author.Tests.{eq-eqb, ne-eqb}
 use Rattle.tape_spec.specs.Whole.{kind}

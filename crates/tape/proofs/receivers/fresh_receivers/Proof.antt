@@ -1,4 +1,4 @@
--- `receivers::fresh_receivers` meets its contract.
+-- `receivers::fresh_receivers`: each receiver is the fresh one of its line, and the addressed line's is the master's.
 -- Assumes nothing.
 use mathlib.Core.Path.{ap, ap₂, _∙_}
 use borrow.Author.Needs.{needs}

@@ -1,4 +1,4 @@
--- `receivers::has_bad` meets its contract.
+-- `receivers::has_bad`: its two tests are those of `badReceivers`, in its order.
 -- Assumes nothing.
 use mathlib.Core.Path.{sym, _∙_}
 use borrow.Author.Needs.{needs}

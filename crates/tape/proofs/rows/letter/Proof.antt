@@ -1,4 +1,4 @@
--- `event_line::letter` meets its contract.
+-- `rows::letter`: each arm answers the text that `letter` has for its line.
 -- Assumes nothing.
 use borrow.Author.Needs.{needs}
 use Rattle.text.specs.Ascii.{ascii}

@@ -1,4 +1,4 @@
--- `event_line::name` meets its contract.
+-- `rows::name`: each arm answers the letters that `nameOf` spells for its event.
 -- Assumes nothing.
 use native.Mathlib.Omega.{arith}
 use borrow.Author.Needs.{needs}

@@ -1,4 +1,4 @@
--- `event_line::put_line` meets its contract: each part is put behind those before it, and the longest line has room.
+-- `rows::put_row`: each part is put after those before it, and there is room for the longest row.
 -- Assumes nothing.
 use mathlib.Core.Path.{sym, ap, _∙_}
 use mathlib.Core.List.{List}

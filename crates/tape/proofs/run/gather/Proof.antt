@@ -1,4 +1,4 @@
--- `run::gather` meets its contract: at each turn, the bodies so far stand at the front of the chunk.
+-- `run::gather`: at each turn, the front of the chunk is the bodies so far with the kind before each but the first.
 -- Assumes nothing.
 use mathlib.Core.Path.{_≡_, refl, _∙_}
 use Prim.Native.Nat.{_*_, _-_, _≤_}

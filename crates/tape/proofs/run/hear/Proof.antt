@@ -1,4 +1,4 @@
--- `run::hear` meets its contract: what is left of the bodies gives what all of them give.
+-- `run::hear`: at each turn, the bodies that are left give, from the receiver so far, what all of them give from the first.
 -- Assumes nothing.
 use mathlib.Core.Path.{_≡_, refl, ap, ap₂, subst⁻¹, _∙_}
 use Prim.Native.Nat.{ℕ, _+_, _-_, _≤_, _<_, zero-le}

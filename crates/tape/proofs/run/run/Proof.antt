@@ -1,4 +1,4 @@
--- `run::run` meets its contract: what was gathered is heard.
+-- `run::run`: the bodies that `gather` finds at the front of the chunk are those that `hear` hears.
 -- Assumes nothing.
 use mathlib.Core.Path.{sym, ap, _∙_}
 use Prim.Native.Nat.{ℕ}

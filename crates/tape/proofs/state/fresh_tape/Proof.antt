@@ -1,4 +1,4 @@
--- `state::fresh_tape` meets its contract.
+-- `state::fresh_tape`: no record yet, a kind next and fresh receivers are what `freshTape` has.
 -- Assumes nothing.
 use mathlib.Core.Path.{ap}
 use borrow.Author.Needs.{needs}

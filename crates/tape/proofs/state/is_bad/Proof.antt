@@ -1,4 +1,5 @@
--- `state::is_bad` meets its contract.
+-- `state::is_bad`: the tests that led to each `return` are those of `badTape`: the receivers first, then a body after the last permitted
+-- record.
 -- Assumes nothing.
 use mathlib.Core.Path.{sym, _∙_}
 use borrow.Author.Needs.{needs}

@@ -1,4 +1,4 @@
--- `decimal::put_decimal` meets its contract: at each turn, the digits of what is left before those that stand are those asked for.
+-- `decimal::put_decimal`: at each turn, the digits of what is left, and after them those that stand in the text, are those asked for.
 -- Assumes nothing.
 use mathlib.Core.Path.{_≡_, refl, ap, _∙_}
 use mathlib.Core.Logic.{⊎-elim}

@@ -1,4 +1,4 @@
--- `hex::digit` meets its contract.
+-- `hex::digit`: its test is that of `digit`, a number below ten or not.
 -- Assumes nothing.
 use borrow.Author.Needs.{needs}
 use borrow.Author.Tests.{lt-ltb, le-ltb}

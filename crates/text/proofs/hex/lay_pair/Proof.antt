@@ -1,4 +1,4 @@
--- `hex::lay_pair` meets its contract: two bytes in a row are laid as one pair.
+-- `hex::lay_pair`: two digits stored one after the other are laid as one pair.
 -- Assumes nothing.
 use mathlib.Core.Path.{ap₂, _∙_}
 use mathlib.Core.List.{[], _∷_}

@@ -1,4 +1,4 @@
--- `hex::lay_pairs` meets its contract: at each turn, to lay what is left at the place reached gives what was asked for.
+-- `hex::lay_pairs`: at each turn, to lay what is left at the place reached gives what was asked for.
 -- Assumes nothing.
 use mathlib.Core.Path.{_≡_, refl, _∙_}
 use Prim.Native.Nat.{_+_, _*_, _-_, _≤_, _<_}

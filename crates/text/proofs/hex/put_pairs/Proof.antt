@@ -1,4 +1,4 @@
--- `hex::put_pairs` meets its contract: none are put as a dash, and more where three places for each pair but one are left.
+-- `hex::put_pairs`: where there is no byte a dash is put; the pairs of n bytes take 3 n - 1 places, and the test says whether these are there.
 -- Assumes nothing.
 use mathlib.Core.Path.{sym, ap, _∙_}
 use mathlib.Core.List.{List}

@@ -1,4 +1,4 @@
--- `frame::lay_check` meets its contract: in each arm the check called is the one that the arm names.
+-- `frame::lay_check`: each arm puts the bytes of the check that it names, and there is room for them.
 -- Assumes nothing.
 use mathlib.Core.Path.{sym, ap, _∙_}
 use mathlib.Core.List.{[], _∷_}

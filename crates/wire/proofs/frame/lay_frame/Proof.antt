@@ -1,4 +1,4 @@
--- `frame::lay_frame` meets its contract: head, data and check are laid one behind the other, and the image is written.
+-- `frame::lay_frame`: head, data and check are put one after the other, so the front of the array is the content, and its image is written.
 -- Assumes nothing.
 use mathlib.Core.Path.{_≡_, sym, ap, _∙_}
 use mathlib.Core.List.{List, _++_}

@@ -1,4 +1,4 @@
--- `frame::write_frame` meets its contract: what the two tests let pass is a content within the limit.
+-- `frame::write_frame`: the two tests say whether head, data and check are over the limit together, and what they let pass is within it.
 -- Assumes nothing.
 use mathlib.Core.Path.{sym, _∙_}
 use native.Mathlib.Omega.{arith}

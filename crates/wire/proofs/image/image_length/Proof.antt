@@ -1,4 +1,4 @@
--- `image::image_length` meets its contract, by the test on the limit.
+-- `image::image_length`: its test is that of `lengthAsked`, a content over the limit or not.
 -- Assumes nothing.
 use Prim.Native.Nat.{_≤_, _<_}
 use native.Mathlib.Omega.{arith}

@@ -1,4 +1,4 @@
--- `image::wire_length` meets its contract: it adds what the image's length adds.
+-- `image::wire_length`: it adds what `imageLength` adds, and of a content within the limit no sum overflows.
 -- Assumes nothing.
 use native.Mathlib.Omega.{arith}
 use borrow.Author.Needs.{needs}

@@ -1,4 +1,4 @@
--- `image::write_image` meets its contract: start, the stuffing in the part lent from index one on, stop.
+-- `image::write_image`: where the buffer has room for it, start, the stuffing in the part lent from index one on, and stop are the image.
 -- Assumes nothing.
 use mathlib.Core.Path.{_≡_, sym, ap, ap₂, _∙_}
 use mathlib.Core.List.{List}

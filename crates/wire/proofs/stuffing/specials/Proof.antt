@@ -1,4 +1,4 @@
--- `stuffing::specials` meets its contract: the count and the specials of what is left are those of the whole.
+-- `stuffing::specials`: at each turn, the count and the specials of what is left make those of the whole.
 -- Assumes nothing.
 use mathlib.Core.Path.{_≡_, ap}
 use mathlib.Core.Logic.{⊎-elim}

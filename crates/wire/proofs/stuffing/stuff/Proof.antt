@@ -1,4 +1,4 @@
--- `stuffing::stuff` meets its contract: at each turn, to lay the stuffing of what is left at the place reached gives what was asked for.
+-- `stuffing::stuff`: at each turn, to lay the stuffing of what is left at the place reached gives what was asked for.
 -- Assumes nothing.
 use mathlib.Core.Path.{_≡_, refl, ap, ap₂, _∙_}
 use mathlib.Core.List.{List, _++_}

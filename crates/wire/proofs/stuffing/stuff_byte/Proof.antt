@@ -1,4 +1,4 @@
--- `stuffing::stuff_byte` meets its contract: a byte below FD stands for itself, any other is FF and its distance from FF.
+-- `stuffing::stuff_byte`: a byte below FD stands for itself, any other is FF and its distance from FF.
 -- Assumes nothing.
 use mathlib.Core.Path.{_≡_, ap}
 use mathlib.Core.List.{[], _∷_}
