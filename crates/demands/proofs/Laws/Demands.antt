@@ -21,14 +21,14 @@ use Rattle.tape_spec.specs.Whole.{parts, entries, freshReceivers}
 use Rattle.tape_spec.proofs.Laws.Taping.{listed-keeps}
 use Rattle.tape_spec.proofs.Laws.Sessions.{listing-shows, listing-some}
 use Rattle.demands.specs.Demands.{Demand1, Demand2, Demand3}
-use Rattle.demands.proofs.Laws.Refusing.{put-ends, length-counts, frame-counts, point-counts, addressed-counts, request-counts, received-silent, reply-meaningless, listed-counts}
+use Rattle.demands.proofs.Laws.Refusing.{put-stops, length-counts, frame-counts, point-counts, addressed-counts, request-counts, received-silent, reply-meaningless, listed-counts}
 use Rattle.demands.proofs.Laws.Exchange.{exchange}
 use Rattle.demands.proofs.Laws.Requests.{request-executed, request-nacked}
 
 pub demand-1 : Demand1
 demand-1 =
     record {
-      puts = λ bytes out at. (put-keeps bytes out at, put-ends bytes out at);
+      puts = λ bytes out at. (put-keeps bytes out at, put-stops bytes out at);
       length = length-counts;
       frame = λ check head «data» out. (frame-keeps check head «data» out, frame-counts check head «data» out);
       point = λ identifier command «data» out. (point-keeps identifier command «data» out, point-counts identifier command «data» out);

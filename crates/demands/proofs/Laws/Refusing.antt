@@ -78,9 +78,9 @@ request-counts identifier code «data» out =
     cond-elim Counts (isAccepted (acceptance code «data»)) (λ asked. image-counts (pointContent identifier code «data») out)
     (λ bad refused. refl)
 
-pub put-ends : (bytes out : List ℕ) (at : ℕ) → AnswersOnly (put bytes out at .refusal) at (put bytes out at .end)
+pub put-stops : (bytes out : List ℕ) (at : ℕ) → AnswersOnly (put bytes out at .refusal) at (put bytes out at .end)
 unfolding put
-put-ends bytes out at =
+put-stops bytes out at =
     cond-elim (λ (e : Ended). AnswersOnly (e .refusal) at (e .end)) (ltb (length out - at) (length bytes)) (λ short refused. refl)
     (λ fits refused. absurd (refused refl))
 

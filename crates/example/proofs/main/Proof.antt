@@ -1,5 +1,4 @@
 -- `main`: both counts that it expects follow from the statements of writer and receiver, computed on the paper's first frame.
--- and the content that is heard two.
 -- Assumes nothing.
 use mathlib.Core.Path.{_≡_, sym, ap, ap₂, _∙_}
 use mathlib.Core.List.{[]}
