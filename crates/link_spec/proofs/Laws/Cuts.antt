@@ -18,12 +18,12 @@ use Rattle.link_spec.proofs.Laws.Fit.{sound-at, Fit, fit-at, fit-good}
 use Rattle.link_spec.proofs.Laws.Receiving.{heard-elim, hears}
 use Rattle.link_spec.proofs.Laws.View.{View, seen, turns, next, noted, turns-seen, seen-moved, noted-seen, quiet}
 
--- what the bytes tell one by one, from behind a place on
+-- what the bytes after a place tell one by one
 unfoldable pub tell : Station → View → ℕ → List ℕ → List Told
 tell station v at [] = []
 tell station v at (b ∷ bs) = noted station v (at + 1) (turns station v b) ++ tell station (next v (turns station v b)) (at + 1) bs
 
--- the same of a record
+-- the same of a receiver
 tell-record : {station : Station} {s : Receiver} → Fit station s → (at b : ℕ) (l : List ℕ)
     → tell station (seen s) at (b ∷ l) ≡ noted station (seen s) (at + 1) (turnAt s b) ++ tell station (seen (moved s (turnAt s b))) (at + 1) l
 unfolding tell

@@ -54,7 +54,7 @@ rise-tell station v at (b ∷ bs) =
 
 -- ---- an image that stands is told
 
--- what is told from any state on is told behind other bytes too
+-- what is told from any state on is told after other bytes too
 tell-behind : (station : Station) (p l : List ℕ) (v : View) (at : ℕ) (x : Told)
     → ((u : View) → List·Memᴰ x (tell station u (at + length p) l)) → List·Memᴰ x (tell station v at (p ++ l))
 unfolding tell

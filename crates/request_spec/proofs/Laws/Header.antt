@@ -18,11 +18,11 @@ set-four l at a b c d h =
     ∙ ap (λ (m : List ℕ). set m (at + 3) d) (set-behind l at (a ∷ b ∷ []) c (omega arith))
     ∙ set-behind l at (a ∷ b ∷ c ∷ []) d (omega arith)
 
--- what is laid behind what stands in front stands there
+-- what is laid after what stands in front stands there
 behind : {m m′ : List ℕ} (l x y : List ℕ) (at : ℕ) → m ≡ laid l 0 x → length x ≡ at → m′ ≡ laid m at y → m′ ≡ laid l 0 (x ++ y)
 behind l x y at stood here lays = lays ∙ ap₂ (λ (m : List ℕ) (n : ℕ). laid m n y) stood (sym here) ∙ laid-behind l x y
 
--- a name and five numbers, one behind the other, are the header
+-- a name and five numbers, one after the other, are the header
 pub header-laid : {a b c d e f : List ℕ} (bytes name : List ℕ) (kind version protocol serial flags : ℕ) → length name ≡ nameLength
     → length bytes ≡ headerLength
     → a ≡ laid bytes 0 name

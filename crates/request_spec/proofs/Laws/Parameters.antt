@@ -23,7 +23,7 @@ lengthOf-most Speed = omega arith
 lengthOf-most Settings = omega arith
 lengthOf-most Cell = omega arith
 
--- a value that a parameter takes has its length, and for the speed is 3..10
+-- a parameter's value has its length, and for the speed is 3..10
 pub takes-length : (p : Parameter) (value : List ℕ) → isValueOf p value ≡ true → length value ≡ lengthOf p
 unfolding isValueOf
 takes-length p value taken =

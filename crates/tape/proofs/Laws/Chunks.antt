@@ -32,7 +32,7 @@ over out d = record { refusal = d .refusal; tape = d .tape; taken = d .taken; wr
 abbrev wrote : Tape → ℕ → Ended → ListedOut
 wrote t taken e = listedTo t taken (e .end) (e .out)
 
--- behind some bytes whose text ends here
+-- after some bytes whose text ends here
 abbrev pub writingBehind : ℕ → Went → List ℕ → ℕ → ListedOut
 writingBehind taken w out written = wrote (w .tape) (taken + w .taken) (placed (w .text) out written)
 
@@ -60,7 +60,7 @@ length-linked k [] some = absurd (omega arith)
 length-linked k (b ∷ bs) some = let h = length-laced k bs in omega arith
 
 module _ (chunk : List ℕ) (all : ListedOut) where
-  -- so many bytes were taken, and their text ends here
+  -- `taken` bytes were taken, and their text ends at `written`
   pub record Goes (out : List ℕ) (t : Tape) (taken written : ℕ) : Type 0 where
     pub part : taken ≤ length chunk
     pub few : t .records ≤ mostRecords
@@ -145,7 +145,7 @@ module _ (chunk : List ℕ) (all : ListedOut) where
           some-heard [] some = absurd (omega arith)
           some-heard (b ∷ bs) some = running-some line (length out - written) n (receiverOn line r) b bs fits
 
-      -- behind them, in the buffer that they left
+      -- after them, in the buffer that they left
       behind-run : Goes (laid out written (ran .text)) (tapeOf (n + ran .count) Kind (withReceiver line (ran .receiver) r))
           (taken + (2 * ran .count - 1)) (written + length (ran .text))
       unfolding ran

@@ -40,7 +40,7 @@ unfolding going
 going-full room t [] h = refl
 going-full room t (b ∷ bs) h = rw (lt-ltb room leastRoom h, or-true)
 
--- a kind byte brings nothing
+-- a kind byte has no text
 pub going-kind : (room n : ℕ) (r : Receivers) (k : ℕ) (l : List ℕ) → leastRoom ≤ room
     → going room (tapeOf n Kind r) (k ∷ l) ≡ behindWent 1 [] (going room (tapeOf n (afterKind n k) r) l)
 unfolding advance
@@ -58,7 +58,7 @@ with-receiver-with-receiver : (line : Line) (s u : Receiver) (r : Receivers) →
 with-receiver-with-receiver Point s u r = refl
 with-receiver-with-receiver Addressed s u r = refl
 
--- behind the kind of a permitted record comes its body
+-- after the kind of a permitted record comes its body
 body-next : (line : Line) (n : ℕ) → n < mostRecords → afterKind n (kindOf line) ≡ Body line
 unfolding afterKind
 body-next line n h = rw (ne-eqb n mostRecords (λ e. absurd (omega arith)), kind-known line)

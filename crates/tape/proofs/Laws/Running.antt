@@ -67,7 +67,7 @@ gathered kind most chunk piece count some few fits front =
 
 -- ---- hearing
 
--- behind some bodies that brought a text
+-- after some bodies with their text
 abbrev pub behindRun : ℕ → List ℕ → Run → Run
 behindRun count text w = record { receiver = w .receiver; count = count + w .count; text = text ++ w .text }
 
@@ -76,7 +76,7 @@ none-quiet s good [] e = ap happened (empty-piece s .1)
 none-quiet s good (b ∷ bs) e = absurd (let t = received-takes s (b ∷ bs) good .some (omega arith) in omega arith)
 
 module _ (line : Line) where
-  -- the text that a call brings which began behind so many records: its event is at the last byte taken
+  -- the text of a call that began after n records: its event is at the last byte taken
   abbrev pub callText : ℕ → Said → List ℕ
   callText n said = heardRow (n + (said .taken - 1)) line said
 
@@ -116,7 +116,7 @@ module _ (line : Line) where
           ∙ sym (no-row (n + 1 + (said .taken - 1)) line said (some e))
       go (suc k) e = ap (λ (i : ℕ). heardRow i line said) (omega arith)
 
-  -- none there, and the others are heard behind it
+  -- none there, and the others are heard after it
   hears-later : (room n : ℕ) (s : Receiver) (b : ℕ) (bs : List ℕ) (said : Said) → leastRoom ≤ room
       → happened (received s (b ∷ []) .event) ≡ false
       → (said .taken ≡ 0 → happened (said .event) ≡ false)

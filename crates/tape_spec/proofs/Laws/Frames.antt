@@ -1,4 +1,4 @@
--- The FRAME lines of a listing are exactly those of the frames whose complete wire image stands in what was heard on their line.
+-- The FRAME rows of a listing are exactly those of the frames whose complete wire image stands in what was heard on their line.
 -- Assumes nothing.
 use mathlib.Core.Path.{_≡_, refl, sym, ap, subst⁻¹, _∙_}
 use mathlib.Core.Logic.{⊎-elim}
@@ -48,7 +48,7 @@ rise-entries (heardOn line b ∷ rs) n r =
 abbrev toldOf : ℕ → Said → List Told
 toldOf place said = note place (said .event) (carried said)
 
--- what bytes tell that are handed over one by one, from behind a place on
+-- what the bytes after a place tell that are handed over one by one
 unfoldable told : ℕ → Receiver → List ℕ → List Told
 told p s [] = []
 told p s (b ∷ bs) =
@@ -72,10 +72,10 @@ told-lists line stream =
     let f = fresh-on line in
     hearing-lists f (hears stream stream 0 (receiverOn line freshReceivers) (fresh-good f) refl)
 
--- ---- the FRAME entries of a side are the FRAMEs that its bytes tell
+-- ---- the FRAME entries of a line are the FRAMEs that its bytes tell
 
 module _ (records : List Record) (line : Line) where
-  -- before these stand so many records, and among them so many of this side
+  -- before these records stand n others, and among them p of this line
   record Behind (n p : ℕ) (rs : List Record) : Type 0 where
     done : List Record
     split : records ≡ done ++ rs
@@ -105,7 +105,7 @@ module _ (records : List Record) (line : Line) where
       }
 
   module _ (front : List ℕ) where
-    -- a FRAME with this content is among the entries of this side exactly where it is told, at the same record
+    -- a FRAME with this content is among the entries of this line exactly where it is told, at the same record
     record Matches (es : List Entry) (ts : List Told) : Type 0 where
       each : (place : ℕ) → List·Memᴰ (toldAt place FRAME front) ts
           → (number : ℕ) × HasByte records number line place × List·Memᴰ (entry number line FRAME front) es
@@ -138,7 +138,7 @@ module _ (records : List Record) (line : Line) where
               (List·Memᴰ·cases-cons m);
         }
 
-    -- one more record of this side
+    -- one more record of this line
     match-same : {es : List Entry} {ts : List Told} (n p : ℕ) (said : Said) → HasByte records n line (p + 1) → Matches es ts
         → Matches (entryOf n line said ++ es) (toldOf (p + 1) said ++ ts)
     unfolding entryOf
@@ -147,7 +147,7 @@ module _ (records : List Record) (line : Line) where
         (λ t. rw (note-some (p + 1) (said .event) (carried said) t) (match-more n p (said .event) (carried said) here rest))
         (λ f. rw (note-none (p + 1) (said .event) (carried said) f) rest)
 
-    -- one more of the other
+    -- one more of the other line
     match-other : {es : List Entry} {ts : List Told} (n : ℕ) (other : Line) (said : Said) → (line ≡ other → ⊥) → Matches es ts
         → Matches (entryOf n other said ++ es) ts
     unfolding entryOf

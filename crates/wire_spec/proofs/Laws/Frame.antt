@@ -17,7 +17,7 @@ use Rattle.wire_spec.specs.Writing.{notWritten, imageWritten}
 use Rattle.wire_spec.proofs.Laws.Writing.{asked-within, asked-over, asked-keeps}
 use Rattle.wire_spec.specs.Writing.{frameWritten}
 
--- the check laid behind a front that was laid: up to the check's end, the content with its check
+-- the check laid after a front that was laid: up to the check's end, the content with its check
 withCheck-at : (l : List ℕ) (check : Check) (front : List ℕ)
     → take (length front + checkLength check) (laid (laid l 0 front) (length front) (checkOf check (take (length front) (laid l 0 front))))
     ≡ withCheck check front
@@ -26,7 +26,7 @@ withCheck-at l check front =
     rw (take-front l front, laid-behind l front (checkOf check front), ← length-withCheck check front)
     (take-front l (front ++ checkOf check front))
 
--- head, data and check laid one behind the other, from one state of the buffer to the next
+-- head, data and check laid one after the other, from one state of the buffer to the next
 pub withCheck-laid : (l : List ℕ) (check : Check) (head «data» : List ℕ) {x y z : List ℕ} {n : ℕ}
     → x ≡ laid l 0 head
     → y ≡ laid x (length head) «data»

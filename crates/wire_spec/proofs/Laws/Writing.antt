@@ -27,7 +27,7 @@ pub length-answered : (content : List ℕ) → length content ≤ mostContent �
 unfolding lengthAsked
 length-answered content within = rw (le-ltb mostContent (length content) within)
 
--- start, then the stuffing in the room behind it, then stop: the image stands in front
+-- start, then the stuffing in the room after it, then stop: the image stands in front
 pub image-laid : (content out : List ℕ) → length (image content) ≤ length out
     → set (laid (set out 0 start) 1 (stuffing content)) (1 + length (stuffing content)) stop
     ≡ image content ++ drop (length (image content)) out

@@ -1,6 +1,6 @@
 -- `receiver::is_bad_state`: its two tests are those of row 4 of the refusal table, whichever is asked first.
 -- Assumes nothing.
-use mathlib.Core.Path.{refl, sym, _∙_}
+use mathlib.Core.Path.{sym, _∙_}
 use mathlib.Core.Bool.{or-true, or-false}
 use borrow.Author.Needs.{needs}
 use Rattle.link.proofs.receiver.is_bad_state.Statement.{statement}

@@ -77,7 +77,7 @@ loop-again c =
           (eqb-true _ _ (c .before .if1 .taken)) (l .inv .3),
     )
 
--- the bodies that stand in the piece behind a turn
+-- the bodies that stand in the piece after a turn
 behind : (c : tie.At-loop Inv-loop μ-loop) → let a = c .before .before .before .before .before .args in let l = c .loop in
     (l .count ≤ length (l .piece)) × Gathered (a .kind) (a .most) (a .chunk .now) (take (l .count) (l .piece))
 behind c =
