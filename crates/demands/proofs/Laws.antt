@@ -1,4 +1,6 @@
--- The laws, each file with the noun that it speaks of.
+-- The theorems that speak of more than one noun; the three demands last.
 pub mod Mastering
-pub mod Requests
 pub mod Exchange
+pub mod Requests
+pub mod Refusing
+pub mod Demands

@@ -1,55 +1,54 @@
--- What the theorems on both ends of the point line promise: demand 2 of a request that is written, heard, executed, answered, heard again and
--- read. 01, The point reader and 'Master's side'. Assumes nothing.
+-- What is promised of both ends of the point line: a request that is written, heard, executed, answered, heard again and read.
+-- 01, The point reader and 'Master's side'. Assumes nothing.
 use mathlib.Core.Path.{_≡_}
-use mathlib.Core.Bool.{Bool}
-use mathlib.Core.List.{List, _∷_, List·Memᴰ}
+use mathlib.Core.Bool.{Bool, false}
+use mathlib.Core.List.{List, _∷_, _++_, List·Memᴰ}
+use mathlib.Core.Option.{some}
 use Prim.Native.Nat.{ℕ, _+_}
 use lib.ListN.{length}
-use Rattle.ground.specs.Refusals.{number}
 use Rattle.link_spec.specs.Events.{FRAME}
 use Rattle.link_spec.specs.Hearing.{Told, toldAt}
 use Rattle.request_spec.specs.declared.command.Command.{Command}
 use Rattle.request_spec.specs.declared.command.Acceptance.the-variants.{Accepted, Refused}
 use Rattle.request_spec.specs.declared.command.Fault.{Fault}
-use Rattle.request_spec.specs.Acceptance.{acceptance, nackOf}
-use Rattle.request_spec.specs.Replies.{Reply, NACK, sign, frontOf}
+use Rattle.request_spec.specs.Acceptance.{nackOf}
+use Rattle.request_spec.specs.Replies.{Reply, NACK, sign, identifierOf, frontOf}
 use Rattle.request_spec.specs.Reading.{hasRead, replyRead}
 use Rattle.reader_spec.specs.declared.reader.Reader.{Reader}
-use Rattle.reader_spec.specs.declared.reader.Answer.{Answer}
+use Rattle.reader_spec.specs.State.{stateOf}
 use Rattle.reader_spec.specs.Replies.{IsAnswer, replyImage, replyTo}
-use Rattle.reader_spec.specs.Sending.{sent}
-use Rattle.reader_spec.specs.Sessions.{History, judgedNext, Session}
+use Rattle.reader_spec.specs.Answering.{Input, Lent}
+use Rattle.reader_spec.specs.Sessions.{History, repeats, bytesOf, asksFor, judgedNext, Call, Done, bytesSent, ReaderSession}
 
--- A call executed a request: it sends the reply that the table has for the values written so far, and the session goes on with what the
--- command did, and with it as the last one executed.
-pub record Executes (alone : Bool) (h : History) (identifier code : ℕ) («data» header antenna : List ℕ) (r : Answer) (store out : List ℕ)
-    : Type 0 where
-  pub command : Command
-  pub asked : acceptance code «data» ≡ Accepted command
-  pub fine : number (r .refusal) ≡ 0
-  pub sends : sent (r .buffer) (r .length) store out ≡ replyImage identifier code (replyTo (h .value) command header antenna)
-  pub reply : IsAnswer (replyTo (h .value) command header antenna)
-  pub goesOn : Session alone (r .reader) store (judgedNext h (identifier ∷ code ∷ «data») header antenna (Accepted command))
+module _ {alone : Bool} {h : History} {s : Reader} {held : List ℕ} (c : Call alone h s held) where
+  -- a call is given this request, as a FRAME that repeats nothing, with good buffers
+  pub record Asks (identifier code : ℕ) («data» : List ℕ) : Type 0 where
+    pub event : c .input .event ≡ FRAME
+    pub content : c .input .content ≡ identifier ∷ code ∷ «data»
+    pub well : Lent (c .input) (c .lent)
+    pub new : repeats (h .last) identifier code ≡ false
 
--- A call answered a request with NACK 2, where its code is unknown, or NACK 3, where its data is not acceptable: it sends that, and neither
--- the reader nor the store changed.
-pub record Refuses (s : Reader) (identifier code : ℕ) («data» store : List ℕ) (r : Answer) (store′ out : List ℕ) : Type 0 where
-  pub fault : Fault
-  pub asked : acceptance code «data» ≡ Refused fault
-  pub fine : number (r .refusal) ≡ 0
-  pub sends : sent (r .buffer) (r .length) store′ out ≡ replyImage identifier sign (NACK (nackOf fault))
-  pub reader : r .reader ≡ s
-  pub kept : store′ ≡ store
+  -- It executed the request: it sends the reply that the table has for the values written so far, and the session goes on with what the
+  -- command did, and with it as the last one executed.
+  pub record RequestExecuted : Type 0 where
+    pub command : Command
+    pub asked : asksFor h (c .input) ≡ Accepted command
+    pub done : Done c
+    pub sends : bytesSent c ≡ bytesOf (c .input .content) (some (replyTo (h .value) command (c .input .header) (c .input .antenna)))
+    pub reply : IsAnswer (replyTo (h .value) command (c .input .header) (c .input .antenna))
+    pub goesOn : ReaderSession alone (c .answer .reader) (c .left .store) (judgedNext h (c .input) (Accepted command))
 
--- a reply that is sent in these bytes is heard, and read as what it is
-pub record Delivered (identifier code : ℕ) («data» before : List ℕ) (all : List Told) (bytes : List ℕ) (reply : Reply) : Type 0 where
+  -- It answered the request with NACK 2, where its code is unknown, or NACK 3, where its data is not acceptable: it sends that, and neither
+  -- the reader's state nor the store changed.
+  pub record RequestNacked : Type 0 where
+    pub fault : Fault
+    pub asked : asksFor h (c .input) ≡ Refused fault
+    pub done : Done c
+    pub sends : bytesSent c ≡ replyImage (identifierOf (c .input .content)) sign (NACK (nackOf fault))
+    pub state : stateOf (c .answer .reader) ≡ stateOf s
+    pub kept : c .left .store ≡ c .lent .store
+
+-- a reply sent in these bytes is heard, and read by the master, who asked so, as what it is
+pub record HeardAndRead (identifier code : ℕ) («data» before : List ℕ) (all : List Told) (bytes : List ℕ) (reply : Reply) : Type 0 where
   pub heard : List·Memᴰ (toldAt (length before + length bytes) FRAME (frontOf identifier code reply)) all
   pub reads : replyRead identifier code «data» (frontOf identifier code reply) ≡ hasRead reply
-
--- a request that is executed, its reply sent, heard, and read: the master accepts it and answers what the reader meant
-pub record Exchanged (h : History) (identifier code : ℕ) («data» header antenna before : List ℕ) (all : List Told)
-    (bytes : List ℕ) : Type 0 where
-  pub command : Command
-  pub asked : acceptance code «data» ≡ Accepted command
-  pub image : bytes ≡ replyImage identifier code (replyTo (h .value) command header antenna)
-  pub reply : Delivered identifier code «data» before all bytes (replyTo (h .value) command header antenna)

@@ -1,3 +1,4 @@
--- What a reader of this library must believe: what is promised of a reader and a master together.
--- Read Exchanging beside document 01, 'The point reader' and 'Master's side'.
+-- The front door: the three demands as three propositions (Demands), and what demand 2 promises of reader and master together (Exchanging).
+-- What they name is in the crates below, each NAME_spec with its own Lib.
 pub mod Exchanging
+pub mod Demands

@@ -1,1 +1,1 @@
-// The theorems that speak of both ends of the point line: requests that are executed, and replies that are read. It has no code.
+// The three demands, and the theorems that speak of reader and master together. It has no code.

@@ -37,3 +37,7 @@ counted n = record { refusal = 0; count = n }
 -- 01, below the table: where a call refused, what it was given is as before
 abbrev pub Keeps : {A : Type 0} → ℕ → A → A → Type 0
 Keeps refusal before after = (refusal ≡ 0 → ⊥) → after ≡ before
+
+-- and its answer is this: a count of 0, no event, an empty part
+abbrev pub AnswersOnly : {A : Type 0} → ℕ → A → A → Type 0
+AnswersOnly refusal nothing answer = (refusal ≡ 0 → ⊥) → answer ≡ nothing

@@ -3,11 +3,11 @@ use reader_spec::Memory;
 use reader_spec::ROOM;
 use reader_spec::Repeat;
 ghost use mathlib.Core.Path.{_≡_};
-ghost use Rattle.reader_spec.specs.Memory.{find as findOf, tooFar};
+ghost use Rattle.reader_spec.specs.State.{remembered, find as findOf, tooFar};
 
 // What a frame with this identifier and command is.
 pub(crate) fn find(memory: Memory, identifier: u8, command: u8) -> Repeat
-    ensures { λ r. ⌜ r ≡ findOf memory identifier command ⌝ }
+    ensures { λ r. ⌜ r ≡ findOf (remembered memory) identifier command ⌝ }
 {
     match memory {
         Memory::None => Repeat::New,
@@ -29,7 +29,7 @@ pub(crate) fn find(memory: Memory, identifier: u8, command: u8) -> Repeat
 
 // Whether the remembered length is over 130.
 pub(crate) fn is_too_far(memory: Memory) -> bool
-    ensures { λ r. ⌜ r ≡ tooFar memory ⌝ }
+    ensures { λ r. ⌜ r ≡ tooFar (remembered memory) ⌝ }
 {
     match memory {
         Memory::None => false,

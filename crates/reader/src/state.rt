@@ -1,4 +1,4 @@
-// A reader's record as it is delivered, and after power-on.
+// A reader as it is delivered, and after power-on.
 use crate::memory::is_too_far;
 use ground::Refusal;
 use reader_spec::Memory;
@@ -9,15 +9,16 @@ use request::CELL_LENGTH;
 use request::SETTINGS_LENGTH;
 use request::is_speed;
 ghost use mathlib.Core.Path.{_≡_};
-ghost use Rattle.reader_spec.specs.Parameters.{fresh as freshParameters};
-ghost use Rattle.reader_spec.specs.Answering.{fresh as freshOf, badState, powering, poweredOn};
+ghost use Rattle.reader_spec.specs.Parameters.{freshParameters};
+ghost use Rattle.reader_spec.specs.State.{stateOf, freshState, badState};
+ghost use Rattle.reader_spec.specs.Answering.{powering, poweredOn};
 
 // 9600 baud.
 const SPEED_AT_DELIVERY: u8 = 3;
 
 // A fresh reader: speed 3, zeros in the other parameters, and no last command.
 pub fn fresh_reader() -> Reader
-    ensures { λ r. ⌜ r ≡ freshOf ⌝ }
+    ensures { λ r. ⌜ stateOf r ≡ freshState ⌝ }
 {
     Reader {
         parameters: fresh_parameters(),
@@ -38,7 +39,7 @@ fn fresh_parameters() -> Parameters
 // Forgets the last command and keeps the parameters. Refuses a reader whose speed is not 3..10 or whose remembered length is over 130
 // (BadState).
 pub fn power_on(reader: Reader) -> Powered
-    ensures { λ r. ⌜ powering r ≡ poweredOn reader ⌝ }
+    ensures { λ r. ⌜ powering r ≡ poweredOn (stateOf reader) ⌝ }
 {
     if is_bad(reader) {
         return Powered {
@@ -57,7 +58,7 @@ pub fn power_on(reader: Reader) -> Powered
 
 // Whether the speed is not 3..10 or the remembered length over 130.
 pub(crate) fn is_bad(reader: Reader) -> bool
-    ensures { λ r. ⌜ r ≡ badState reader ⌝ }
+    ensures { λ r. ⌜ r ≡ badState (stateOf reader) ⌝ }
 {
     let memory = reader.memory;
     if is_speed(reader.parameters.speed) {

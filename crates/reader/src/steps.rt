@@ -26,10 +26,13 @@ use request::accept;
 use request::nack_of;
 ghost use mathlib.Core.Path.{_≡_};
 ghost use mathlib.Core.Bool.{true};
-ghost use Rattle.link_spec.specs.Events.{named};
+ghost use mathlib.Core.List.{_∷_};
+ghost use Rattle.link_spec.specs.Events.{named, FRAME};
 ghost use Rattle.request_spec.specs.Acceptance.{FitsCommand};
-ghost use Rattle.reader_spec.specs.Asking.{asking as askingOf};
-ghost use Rattle.reader_spec.specs.Answering.{answering, answerOf, Lent, executed as executedOf, framed, isFront, fits as fitsOf, heeded, answered};
+ghost use Rattle.reader_spec.specs.State.{stateOf};
+ghost use Rattle.reader_spec.specs.Sending.{buffersOf};
+ghost use Rattle.reader_spec.specs.Answering.{inputOf, answerSays, Lent, executed as executedOf, framed, isFront, fits as fitsOf, admitted, Answers};
+ghost use Rattle.reader.specs.Answers.{answerOf};
 
 // Answers what a receiver heard: an event with its content, the check cut off. What is to be sent stands in `out`, on a repeat in
 // `store`; `to_send` hands it back. Refuses a reader as `power_on` does (BadState), `store` or `out` under 130 bytes (NoRoom), an
@@ -44,7 +47,7 @@ pub fn answer(
     store: &mut [u8],
     out: &mut [u8],
 ) -> Answer
-    ensures { λ r. ⌜ answering r (now (store .exit)) (now (out .exit)) ≡ answered reader (named event) (now (content .entry)) header (now (antenna .entry)) (now (store .entry)) (now (out .entry)) ⌝ }
+    ensures { λ r. ⌜ Answers reader (inputOf (named event) (now (content .entry)) header (now (antenna .entry))) (buffersOf (now (store .entry)) (now (out .entry))) r (buffersOf (now (store .exit)) (now (out .exit))) ⌝ }
 {
     if is_bad(reader) {
         return refused(Refusal::BadState, reader);
@@ -58,11 +61,11 @@ pub fn answer(
     if antenna.len() > MOST_ANTENNA {
         return refused(Refusal::TooLong, reader);
     }
-    heed(reader, event, content, header, antenna, store, out)
+    admit(reader, event, content, header, antenna, store, out)
 }
 
 // The same, where only the content may have to be refused.
-fn heed(
+fn admit(
     reader: Reader,
     event: Event,
     content: &[u8],
@@ -71,8 +74,8 @@ fn heed(
     store: &mut [u8],
     out: &mut [u8],
 ) -> Answer
-    requires { ⌜ Lent (now antenna) (now store) (now out) ⌝ }
-    ensures { λ r. ⌜ answering r (now (store .exit)) (now (out .exit)) ≡ heeded reader (askingOf (named event)) (now (content .entry)) header (now (antenna .entry)) (now (store .entry)) (now (out .entry)) ⌝ }
+    requires { ⌜ Lent (inputOf (named event) (now content) header (now antenna)) (buffersOf (now store) (now out)) ⌝ }
+    ensures { λ r. ⌜ answerSays r (buffersOf (now (store .exit)) (now (out .exit))) ≡ admitted (stateOf reader) (inputOf (named event) (now (content .entry)) header (now (antenna .entry))) (buffersOf (now (store .entry)) (now (out .entry))) ⌝ }
 {
     let asking = asked_by(event);
     if fits(asking, content) {
@@ -99,8 +102,8 @@ fn answer_frame(
     store: &mut [u8],
     out: &mut [u8],
 ) -> Answer
-    requires { ⌜ (isFront (now content) ≡ true) × Lent (now antenna) (now store) (now out) ⌝ }
-    ensures { λ r. ⌜ answering r (now (store .exit)) (now (out .exit)) ≡ framed reader header (now (antenna .entry)) (now (store .entry)) (now (out .entry)) (now (content .entry)) ⌝ }
+    requires { ⌜ (isFront (now content) ≡ true) × Lent (inputOf FRAME (now content) header (now antenna)) (buffersOf (now store) (now out)) ⌝ }
+    ensures { λ r. ⌜ answerSays r (buffersOf (now (store .exit)) (now (out .exit))) ≡ framed (stateOf reader) (inputOf FRAME (now (content .entry)) header (now (antenna .entry))) (buffersOf (now (store .entry)) (now (out .entry))) ⌝ }
 {
     let identifier = content[0];
     let code = content[1];
@@ -144,8 +147,8 @@ fn execute(
     store: &mut [u8],
     out: &mut [u8],
 ) -> Answer
-    requires { ⌜ FitsCommand command (now «data») × Lent (now antenna) (now store) (now out) ⌝ }
-    ensures { λ r. ⌜ answering r (now (store .exit)) (now (out .exit)) ≡ executedOf reader header (now (antenna .entry)) (now (store .entry)) (now (out .entry)) identifier code (now («data» .entry)) command ⌝ }
+    requires { ⌜ FitsCommand command (now «data») × Lent (inputOf FRAME (now «data») header (now antenna)) (buffersOf (now store) (now out)) ⌝ }
+    ensures { λ r. ⌜ answerSays r (buffersOf (now (store .exit)) (now (out .exit))) ≡ executedOf (stateOf reader) (inputOf FRAME (identifier ∷ code ∷ now («data» .entry)) header (now (antenna .entry))) (buffersOf (now (store .entry)) (now (out .entry))) command ⌝ }
 {
     let parameters = reader.parameters;
     let length = write_reply(parameters, identifier, code, command, header, antenna, out);

@@ -1,8 +1,9 @@
 -- The laws, each file with the noun that it speaks of.
 pub mod Parameters
+pub mod State
 pub mod Replies
-pub mod Answering
 pub mod Sending
+pub mod Answering
 pub mod Executing
 pub mod Agreeing
 pub mod Sessions

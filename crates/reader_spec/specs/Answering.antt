@@ -2,140 +2,123 @@
 -- 01, The point reader, by the numbers of its steps, and Refusal numbers, rows 1, 2, 4 and 5. Assumes nothing.
 use Prim.Native.Nat.{ℕ, _≤_, _<_}
 use mathlib.Core.Path.{_≡_}
-use mathlib.Core.Bool.{Bool, true, false, cond, _&&_, _||_, not}
+use mathlib.Core.Bool.{Bool, true, cond, _&&_, _||_}
 use mathlib.Core.List.{List}
+use mathlib.Core.Option.{none, some}
 use lib.Dec.{ltb, leb}
 use lib.ListN.{length}
 use Rattle.ground.specs.declared.refusal.Refusal.{Refusal}
-use Rattle.ground.specs.declared.refusal.Refusal.the-variants.{NoRoom, TooLong, BadState, BadRequest}
+use Rattle.ground.specs.declared.refusal.Refusal.the-variants.{NoRoom, TooLong, BadState as BAD, BadRequest}
 use Rattle.ground.specs.Refusals.{number}
 use Rattle.ground.specs.Laying.{onto}
-use Rattle.link_spec.specs.Events.{Name}
+use Rattle.link_spec.specs.Events.{Name, FRAME, CHECK}
 use Rattle.request_spec.specs.declared.command.Command.{Command}
 use Rattle.request_spec.specs.declared.command.Acceptance.{Acceptance}
 use Rattle.request_spec.specs.declared.command.Acceptance.the-variants.{Accepted, Refused}
 use Rattle.request_spec.specs.Limits.{mostAntenna}
-use Rattle.request_spec.specs.Parameters.{isSpeed}
 use Rattle.request_spec.specs.Acceptance.{acceptance, nackOf}
 use Rattle.request_spec.specs.Replies.{NACK, sign, identifierOf, commandOf, dataOf, wrongCheck}
 use Rattle.reader_spec.specs.declared.reader.Asking.{Asking}
 use Rattle.reader_spec.specs.declared.reader.Asking.the-variants.{Nothing, Wrong, Right}
-use Rattle.reader_spec.specs.declared.reader.Buffer.{Buffer}
-use Rattle.reader_spec.specs.declared.reader.Buffer.the-variants.{Out, Store}
-use Rattle.reader_spec.specs.declared.reader.Memory.{Memory}
-use Rattle.reader_spec.specs.declared.reader.Memory.the-variants.{None, Last}
 use Rattle.reader_spec.specs.declared.reader.Repeat.{Repeat}
 use Rattle.reader_spec.specs.declared.reader.Repeat.the-variants.{New, Stored}
-use Rattle.reader_spec.specs.declared.reader.Parameters.{Parameters}
 use Rattle.reader_spec.specs.declared.reader.Reader.{Reader}
 use Rattle.reader_spec.specs.declared.reader.Powered.{Powered}
 use Rattle.reader_spec.specs.declared.reader.Answer.{Answer}
 use Rattle.reader_spec.specs.Limits.{room, leastFront, mostFront}
-use Rattle.reader_spec.specs.Parameters as parameters
 use Rattle.reader_spec.specs.Parameters.{valueOf, doneTo}
+use Rattle.reader_spec.specs.State.{State, stateWith, stateOf, lastOf, find, badState, BadState}
 use Rattle.reader_spec.specs.Asking.{asking}
 use Rattle.reader_spec.specs.Replies.{replyImage, replyTo}
-use Rattle.reader_spec.specs.Memory.{find, tooFar}
+use Rattle.reader_spec.specs.Sending.{BufferName, OUT, STORE, bufferNamed, Buffers, buffersOf}
 
-abbrev pub being : Parameters → Memory → Reader
-being ps memory = record { parameters = ps; memory = memory }
+-- ---- power-on
 
--- ---- fresh, and power-on
-
--- speed 3, zeros in the others, and no last command
-abbrev pub fresh : Reader
-fresh = being parameters.fresh None
-
--- row 4: speed not 3..10; remembered length over 130
-abbrev pub badState : Reader → Bool
-badState s = not (isSpeed (s .parameters .speed)) || tooFar (s .memory)
-
--- a call's result in the paper's numbers
+-- a call's result in the paper's words
 pub record PoweredOn : Type 0 where
   pub refusal : ℕ
-  pub reader : Reader
+  pub state : State
 
 abbrev pub powering : Powered → PoweredOn
-powering r = record { refusal = number (r .refusal); reader = r .reader }
+powering r = record { refusal = number (r .refusal); state = stateOf (r .reader) }
 
 -- a power-on forgets the last command and keeps all three parameters; 4 only
-unfoldable pub poweredOn : Reader → PoweredOn
+unfoldable pub poweredOn : State → PoweredOn
 poweredOn s =
-    cond (badState s) (record { refusal = number BadState; reader = s }) (record { refusal = 0; reader = being (s .parameters) None })
+    cond (badState s) (record { refusal = number BAD; state = s }) (record { refusal = 0; state = stateWith (s .parameters) none })
 
 -- ---- one call
 
--- its result in the paper's numbers, and the contents of both buffers as it returns
+-- what a call is given besides the reader and the buffers: a receiver event with its content, the check cut off, the device header, and
+-- the antenna's answer
+pub record Input : Type 0 where
+  pub event : Name
+  pub content : List ℕ
+  pub header : List ℕ
+  pub antenna : List ℕ
+
+abbrev pub inputOf : Name → List ℕ → List ℕ → List ℕ → Input
+inputOf event content header antenna = record { event = event; content = content; header = header; antenna = antenna }
+
+-- its result in the paper's words, and the contents of both buffers as it returns
 pub record Answered : Type 0 where
   pub refusal : ℕ
-  pub reader : Reader
-  pub buffer : Buffer
+  pub state : State
+  pub buffer : BufferName
   pub length : ℕ
-  pub store : List ℕ
-  pub out : List ℕ
+  pub left : Buffers
 
-abbrev pub answering : Answer → List ℕ → List ℕ → Answered
-answering r store out =
-    record {
-      refusal = number (r .refusal);
-      reader = r .reader;
-      buffer = r .buffer;
-      length = r .length;
-      store = store;
-      out = out;
-    }
+abbrev pub answerSays : Answer → Buffers → Answered
+answerSays r left =
+    record { refusal = number (r .refusal); state = stateOf (r .reader); buffer = bufferNamed (r .buffer); length = r .length; left = left }
 
-abbrev pub answerOf : Refusal → Reader → Buffer → ℕ → Answer
-answerOf why s buffer length = record { refusal = why; reader = s; buffer = buffer; length = length }
-
--- buffers and an antenna's answer that no row refuses
-abbrev pub Lent : List ℕ → List ℕ → List ℕ → Type 0
-Lent antenna store out = (length antenna ≤ mostAntenna) × (room ≤ length store) × (room ≤ length out)
-
--- no refusal: this record from now on, and the first bytes of one buffer to send
-abbrev pub sending : Reader → Buffer → ℕ → List ℕ → List ℕ → Answered
-sending s buffer length store out =
-    record { refusal = 0; reader = s; buffer = buffer; length = length; store = store; out = out }
+-- no refusal: this state from now on, and the first bytes of one buffer to send
+abbrev pub sending : State → BufferName → ℕ → Buffers → Answered
+sending s buffer length left = record { refusal = 0; state = s; buffer = buffer; length = length; left = left }
 
 -- the number and an empty part of out, with state and buffers as before
-abbrev pub refusing : Refusal → Reader → List ℕ → List ℕ → Answered
-refusing why s store out =
-    record { refusal = number why; reader = s; buffer = Out; length = 0; store = store; out = out }
+abbrev pub notAnswered : Refusal → State → Buffers → Answered
+notAnswered why s lent = record { refusal = number why; state = s; buffer = OUT; length = 0; left = lent }
 
 -- steps 2, 4 and 5 write only to out and leave memory and store untouched; a NACK's frame carries no command
-abbrev pub nacked : Reader → ℕ → ℕ → List ℕ → List ℕ → Answered
-nacked s identifier n store out =
+abbrev pub nacked : State → ℕ → ℕ → Buffers → Answered
+nacked s identifier n lent =
     let bytes = replyImage identifier sign (NACK n) in
-    sending s Out (length bytes) store (onto bytes out)
+    sending s OUT (length bytes) (buffersOf (lent .store) (onto bytes (lent .out)))
 
-module _ (s : Reader) (header antenna store out : List ℕ) where
+module _ (s : State) (i : Input) (lent : Buffers) where
+  -- the whole image of the reply to a command that is executed
+  abbrev pub replyBytes : Command → List ℕ
+  replyBytes command =
+      replyImage (identifierOf (i .content)) (commandOf (i .content)) (replyTo (valueOf (s .parameters)) command (i .header) (i .antenna))
+
   -- 6. the reply is written to out, copied to the front of the store, and identifier, command and length are remembered
-  abbrev pub executed : ℕ → ℕ → List ℕ → Command → Answered
-  executed identifier code «data» command =
-      let bytes = replyImage identifier code (replyTo (valueOf (s .parameters)) command header antenna) in
-      sending (being (doneTo (s .parameters) command «data») (Last identifier code (length bytes)))
-      Out (length bytes) (onto bytes store) (onto bytes out)
+  abbrev pub executed : Command → Answered
+  executed command =
+      sending
+      (stateWith (doneTo (s .parameters) command (dataOf (i .content)))
+      (some (lastOf (identifierOf (i .content)) (commandOf (i .content)) (length (replyBytes command)))))
+      OUT (length (replyBytes command)) (buffersOf (onto (replyBytes command) (lent .store)) (onto (replyBytes command) (lent .out)))
 
   -- 4. unknown code: NACK 2. 5. data not acceptable: NACK 3
-  abbrev pub judged : ℕ → ℕ → List ℕ → Acceptance → Answered
-  judged identifier code «data» (Accepted command) = executed identifier code «data» command
-  judged identifier code «data» (Refused fault) = nacked s identifier (nackOf fault) store out
+  abbrev pub judged : Acceptance → Answered
+  judged (Accepted command) = executed command
+  judged (Refused fault) = nacked s (identifierOf (i .content)) (nackOf fault) lent
 
   -- 3. the stored reply again; data is ignored, nothing changes
-  abbrev pub recalled : ℕ → ℕ → List ℕ → Repeat → Answered
-  recalled identifier code «data» (Stored length) = sending s Store length store out
-  recalled identifier code «data» New = judged identifier code «data» (acceptance code «data»)
+  abbrev pub recalled : Repeat → Answered
+  recalled (Stored length) = sending s STORE length lent
+  recalled New = judged (acceptance (commandOf (i .content)) (dataOf (i .content)))
 
   -- of a FRAME, by its identifier, command and data part
-  unfoldable pub framed : List ℕ → Answered
-  framed content =
-      recalled (identifierOf content) (commandOf content) (dataOf content) (find (s .memory) (identifierOf content) (commandOf content))
+  unfoldable pub framed : Answered
+  framed = recalled (find (s .last) (identifierOf (i .content)) (commandOf (i .content)))
 
   -- 1. no answer, an empty part of the out buffer. 2. CHECK: NACK 1, with the received identifier
-  abbrev pub stepped : Asking → List ℕ → Answered
-  stepped Nothing content = sending s Out 0 store out
-  stepped Wrong content = nacked s (identifierOf content) wrongCheck store out
-  stepped Right content = framed content
+  abbrev pub stepped : Asking → Answered
+  stepped Nothing = sending s OUT 0 lent
+  stepped Wrong = nacked s (identifierOf (i .content)) wrongCheck lent
+  stepped Right = framed
 
 -- row 5: a FRAME or CHECK whose content without check is not 2..62 bytes
 abbrev pub isFront : List ℕ → Bool
@@ -146,38 +129,46 @@ fits Nothing content = true
 fits Wrong content = isFront content
 fits Right content = isFront content
 
-abbrev pub heeded : Reader → Asking → List ℕ → List ℕ → List ℕ → List ℕ → List ℕ → Answered
-heeded s asked content header antenna store out =
-    cond (fits asked content) (stepped s header antenna store out asked content) (refusing BadRequest s store out)
+abbrev pub admitted : State → Input → Buffers → Answered
+admitted s i lent = cond (fits (asking (i .event)) (i .content)) (stepped s i lent (asking (i .event))) (notAnswered BadRequest s lent)
 
 -- row 1: store or out under 130. Row 2: antenna answer over 8. 'Order': reader 4, 1, 2, 5
-unfoldable pub answered : Reader → Name → List ℕ → List ℕ → List ℕ → List ℕ → List ℕ → Answered
-answered s event content header antenna store out =
-    cond (badState s) (refusing BadState s store out)
-    (cond (ltb (length store) room || ltb (length out) room) (refusing NoRoom s store out)
-    (cond (ltb mostAntenna (length antenna)) (refusing TooLong s store out) (heeded s (asking event) content header antenna store out)))
+unfoldable pub answered : State → Input → Buffers → Answered
+answered s i lent =
+    cond (badState s) (notAnswered BAD s lent)
+    (cond (ltb (length (lent .store)) room || ltb (length (lent .out)) room) (notAnswered NoRoom s lent)
+    (cond (ltb mostAntenna (length (i .antenna))) (notAnswered TooLong s lent) (admitted s i lent)))
+
+-- the call's statement: to this reader, with this input and these buffers lent, it answers this and leaves the buffers so
+abbrev pub Answers : Reader → Input → Buffers → Answer → Buffers → Type 0
+Answers reader i lent r left = answerSays r left ≡ answered (stateOf reader) i lent
+
+-- ---- the same as a table
+
+-- an antenna's answer and buffers that no row refuses
+abbrev pub Lent : Input → Buffers → Type 0
+Lent i lent = (length (i .antenna) ≤ mostAntenna) × (room ≤ length (lent .store)) × (room ≤ length (lent .out))
+
+-- the events that row 5 speaks of
+pub data Framed : Name → Type 0 where
+  frame : Framed FRAME
+  check : Framed CHECK
+
+-- a FRAME or CHECK whose content without check is not 2..62 bytes
+pub data Unfit (i : Input) : Type 0 where
+  short : Framed (i .event) → length (i .content) < leastFront → Unfit i
+  long : Framed (i .event) → mostFront < length (i .content) → Unfit i
 
 -- The reader's rows of the refusal table, and the steps where no row applies. `Laws.Answering` proves that `answered` answers by them, and
 -- that they leave it no other answer.
-pub data ByTable (s : Reader) (event : Name) (content header antenna store out : List ℕ) : Answered → Type 0 where
-  state : badState s ≡ true → ByTable s event content header antenna store out (refusing BadState s store out)
-  noStore : badState s ≡ false
-      → length store < room
-      → ByTable s event content header antenna store out (refusing NoRoom s store out)
-  noOut : badState s ≡ false
-      → room ≤ length store
-      → length out < room
-      → ByTable s event content header antenna store out (refusing NoRoom s store out)
-  tooLong : badState s ≡ false
-      → room ≤ length store
-      → room ≤ length out
-      → mostAntenna < length antenna
-      → ByTable s event content header antenna store out (refusing TooLong s store out)
-  request : badState s ≡ false
-      → Lent antenna store out
-      → fits (asking event) content ≡ false
-      → ByTable s event content header antenna store out (refusing BadRequest s store out)
-  steps : badState s ≡ false
-      → Lent antenna store out
-      → fits (asking event) content ≡ true
-      → ByTable s event content header antenna store out (stepped s header antenna store out (asking event) content)
+pub data ReaderTable (s : State) (i : Input) (lent : Buffers) : Answered → Type 0 where
+  state : BadState s → ReaderTable s i lent (notAnswered BAD s lent)
+  noStore : (BadState s → ⊥) → length (lent .store) < room → ReaderTable s i lent (notAnswered NoRoom s lent)
+  noOut : (BadState s → ⊥) → room ≤ length (lent .store) → length (lent .out) < room → ReaderTable s i lent (notAnswered NoRoom s lent)
+  tooLong : (BadState s → ⊥)
+      → room ≤ length (lent .store)
+      → room ≤ length (lent .out)
+      → mostAntenna < length (i .antenna)
+      → ReaderTable s i lent (notAnswered TooLong s lent)
+  request : (BadState s → ⊥) → Lent i lent → Unfit i → ReaderTable s i lent (notAnswered BadRequest s lent)
+  steps : (BadState s → ⊥) → Lent i lent → (Unfit i → ⊥) → ReaderTable s i lent (stepped s i lent (asking (i .event)))

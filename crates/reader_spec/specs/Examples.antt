@@ -1,31 +1,43 @@
 -- Worked examples of the reader, as rows of one table. The claim is that each holds; `proofs/Laws/Examples` proves it. 01, Bench examples,
--- The point reader and Mistakes that come easily. Assumes nothing.
+-- The point reader, Refusal numbers, rows 1, 2, 4 and 5, and Mistakes that come easily. Assumes nothing.
 use Prim.Native.Nat.{ℕ}
 use mathlib.Core.Path.{_≡_}
-use mathlib.Core.List.{List, [], _∷_}
+use mathlib.Core.List.{List, [], _∷_, _++_}
 use mathlib.Core.Option.{Option, none, some}
 use lib.ListN.{replicate}
 use Rattle.link_spec.specs.Events.{Name, FRAME, CHECK, SHORT}
 use Rattle.request_spec.specs.Replies.{Reply, ACK, NACK, DATA}
-use Rattle.reader_spec.specs.declared.reader.Asking.the-variants.{Right}
-use Rattle.reader_spec.specs.declared.reader.Buffer.{Buffer}
-use Rattle.reader_spec.specs.declared.reader.Buffer.the-variants.{Out, Store}
-use Rattle.reader_spec.specs.declared.reader.Memory.{Memory}
-use Rattle.reader_spec.specs.declared.reader.Memory.the-variants.{None, Last}
-use Rattle.reader_spec.specs.Asking.{asking}
-use Rattle.reader_spec.specs.Answering.{being, fresh, poweredOn}
-use Rattle.reader_spec.specs.Sending.{sent}
-use Rattle.reader_spec.specs.Sessions.{begun, meant}
+use Rattle.reader_spec.specs.Limits.{room, leastFront, mostFront}
+use Rattle.reader_spec.specs.Parameters.{freshParameters}
+use Rattle.reader_spec.specs.State.{Last, lastOf, State, stateWith, freshState}
+use Rattle.reader_spec.specs.Sending.{BufferName, OUT, STORE, buffersOf, sent}
+use Rattle.reader_spec.specs.Answering.{inputOf, poweredOn, Answered, answered}
+use Rattle.reader_spec.specs.Sessions.{begun, replyDue}
+
+-- what a user sees of a call: the refusal, the buffer, the bytes to send, and what is remembered then
+pub record Seen : Type 0 where
+  pub refusal : ℕ
+  pub buffer : BufferName
+  pub bytes : List ℕ
+  pub last : Option Last
+
+abbrev pub seen : Answered → Seen
+seen a = record { refusal = a .refusal; buffer = a .buffer; bytes = sent (a .buffer) (a .length) (a .left); last = a .state .last }
 
 pub data Example : Type 0 where
-  -- what a fresh reader that hears this, with this antenna's answer, has to reply; none where it has no answer
+  -- what is due from a fresh reader that hears this, with this antenna's answer; none where it has no answer
   means : (event : Name) (content antenna : List ℕ) (reply : Option Reply) → Example
   -- it answers this code and data with the NACK of this number
   nacks : (code : ℕ) («data» : List ℕ) (nack : ℕ) → Example
+  -- one call on a reader that remembers this, lent so much store and out, all EE: what is seen of it
+  answers : (last : Option Last) (event : Name) (content antenna : List ℕ) (store out : ℕ)
+      (refusal : ℕ) (buffer : BufferName) (bytes : List ℕ) (left : Option Last) → Example
   -- a reader that had this memory powered on, and the refusal
-  powers : (memory : Memory) (refusal : ℕ) (left : Memory) → Example
+  powers : (last : Option Last) (refusal : ℕ) (left : Option Last) → Example
   -- so many bytes of a buffer sent
-  parts : (buffer : Buffer) (count : ℕ) (store out printed : List ℕ) → Example
+  parts : (buffer : BufferName) (count : ℕ) (store out printed : List ℕ) → Example
+  -- a limit is this number
+  counts : (limit number : ℕ) → Example
 
 -- the bytes 00, 01, .. 27
 abbrev device : List ℕ
@@ -35,11 +47,20 @@ device =
     ∷ []
 
 abbrev pub Holds : Example → Type 0
-Holds (means event content antenna reply) = meant begun content device antenna (asking event) ≡ reply
-Holds (nacks code «data» nack) = meant begun (0x00 ∷ code ∷ «data») device [] Right ≡ some (NACK nack)
-Holds (powers memory refusal left) =
-    poweredOn (being (fresh .parameters) memory) ≡ record { refusal = refusal; reader = being (fresh .parameters) left }
-Holds (parts buffer count store out printed) = sent buffer count store out ≡ printed
+Holds (means event content antenna reply) = replyDue begun (inputOf event content device antenna) ≡ reply
+Holds (nacks code «data» nack) = replyDue begun (inputOf FRAME (0x00 ∷ code ∷ «data») device []) ≡ some (NACK nack)
+Holds (answers last event content antenna store out refusal buffer bytes left) =
+    seen (answered (stateWith freshParameters last) (inputOf event content device antenna)
+    (buffersOf (replicate store 0xEE) (replicate out 0xEE)))
+    ≡ record { refusal = refusal; buffer = buffer; bytes = bytes; last = left }
+Holds (powers last refusal left) =
+    poweredOn (stateWith freshParameters last) ≡ record { refusal = refusal; state = stateWith freshParameters left }
+Holds (parts buffer count store out printed) = sent buffer count (buffersOf store out) ≡ printed
+Holds (counts limit number) = limit ≡ number
+
+-- the image of the header's reply with identifier and command 00
+abbrev headerImage : List ℕ
+headerImage = 0xFD ∷ 0x00 ∷ 0x00 ∷ device ++ (0x99 ∷ 0x0F ∷ 0xFE ∷ [])
 
 abbrev pub examples : List Example
 examples =
@@ -65,11 +86,36 @@ examples =
     ∷ nacks 0x02 (0x03 ∷ []) 3
     ∷ nacks 0x18 (0x00 ∷ []) 3
     ∷ nacks 0x19 [] 2
+    -- the header asked of a fresh reader: the reply's image stands in out, and is remembered
+    ∷ answers none FRAME (0x00 ∷ 0x00 ∷ []) [] 130 130 0 OUT headerImage (some (lastOf 0x00 0x00 46))
+    -- rooms of 129 and 130
+    ∷ answers none FRAME (0x00 ∷ 0x00 ∷ []) [] 129 130 1 OUT [] none
+    ∷ answers none FRAME (0x00 ∷ 0x00 ∷ []) [] 130 129 1 OUT [] none
+    -- an antenna's answer of 8 and 9 bytes
+    ∷ answers none FRAME (0x00 ∷ 0x2B ∷ []) (replicate 8 1) 130 130 0 OUT (0xFD ∷ 0x00 ∷ 0x2A ∷ 0x02 ∷ 0x9D ∷ 0x3B ∷ 0xFE ∷ []) none
+    ∷ answers none FRAME (0x00 ∷ 0x2B ∷ []) (replicate 9 1) 130 130 2 OUT [] none
+    -- content of 1, 2, 62 and 63 bytes; a code that does not exist, and a wrong check
+    ∷ answers none FRAME (0x00 ∷ []) [] 130 130 5 OUT [] none
+    ∷ answers none CHECK (0x00 ∷ []) [] 130 130 5 OUT [] none
+    ∷ answers none FRAME (replicate 62 0x2B) [] 130 130 0 OUT (0xFD ∷ 0x2B ∷ 0x2A ∷ 0x02 ∷ 0x00 ∷ 0x11 ∷ 0xFE ∷ []) none
+    ∷ answers none FRAME (replicate 63 0x2B) [] 130 130 5 OUT [] none
+    ∷ answers none CHECK (replicate 63 0x2B) [] 130 130 5 OUT [] none
+    ∷ answers none SHORT (replicate 63 0x2B) [] 130 130 0 OUT [] none
+    -- a repeat sends the remembered bytes of the store whatever its data, and changes nothing; another identifier is executed
+    ∷ answers (some (lastOf 0x07 0x10 3)) FRAME (0x07 ∷ 0x10 ∷ 0x99 ∷ []) (1 ∷ []) 130 130 0 STORE (0xEE ∷ 0xEE ∷ 0xEE ∷ [])
+    (some (lastOf 0x07 0x10 3))
+    ∷ answers (some (lastOf 0x07 0x10 3)) FRAME (0x00 ∷ 0x00 ∷ []) [] 130 130 0 OUT headerImage (some (lastOf 0x00 0x00 46))
+    -- a remembered length of 131 is no state
+    ∷ answers (some (lastOf 0x07 0x10 131)) FRAME (0x07 ∷ 0x10 ∷ []) [] 130 130 4 OUT [] (some (lastOf 0x07 0x10 131))
     -- power-on forgets the last command; a remembered length of 130 and of 131
-    ∷ powers (Last 1 2 130) 0 None
-    ∷ powers (Last 1 2 131) 4 (Last 1 2 131)
+    ∷ powers (some (lastOf 1 2 130)) 0 none
+    ∷ powers (some (lastOf 1 2 131)) 4 (some (lastOf 1 2 131))
     -- some, all and too many bytes of a buffer
-    ∷ parts Out 2 (1 ∷ 2 ∷ 3 ∷ []) (4 ∷ 5 ∷ 6 ∷ []) (4 ∷ 5 ∷ [])
-    ∷ parts Store 3 (1 ∷ 2 ∷ 3 ∷ []) (4 ∷ 5 ∷ 6 ∷ []) (1 ∷ 2 ∷ 3 ∷ [])
-    ∷ parts Out 4 (1 ∷ 2 ∷ 3 ∷ 4 ∷ []) (4 ∷ 5 ∷ 6 ∷ []) []
+    ∷ parts OUT 2 (1 ∷ 2 ∷ 3 ∷ []) (4 ∷ 5 ∷ 6 ∷ []) (4 ∷ 5 ∷ [])
+    ∷ parts STORE 3 (1 ∷ 2 ∷ 3 ∷ []) (4 ∷ 5 ∷ 6 ∷ []) (1 ∷ 2 ∷ 3 ∷ [])
+    ∷ parts OUT 4 (1 ∷ 2 ∷ 3 ∷ 4 ∷ []) (4 ∷ 5 ∷ 6 ∷ []) []
+    -- the limits in the paper's numbers
+    ∷ counts room 130
+    ∷ counts leastFront 2
+    ∷ counts mostFront 62
     ∷ []

@@ -1,4 +1,4 @@
--- The values of the three parameters in a reader's record.
+-- The values of the three parameters in a reader's state.
 -- 01, The point reader, 'State' and the table; 003, 'Параметры считывателя'. Assumes nothing.
 use Prim.Native.Nat.{ℕ}
 use mathlib.Core.List.{List, [], _∷_}
@@ -11,8 +11,8 @@ use Rattle.request_spec.specs.Parameters.{lengthOf}
 use Rattle.reader_spec.specs.declared.reader.Parameters.{Parameters}
 
 -- a fresh reader has speed 3, zeros in the others
-abbrev pub fresh : Parameters
-fresh = record { speed = 3; settings = replicate (lengthOf Settings) 0; cell = replicate (lengthOf Cell) 0 }
+abbrev pub freshParameters : Parameters
+freshParameters = record { speed = 3; settings = replicate (lengthOf Settings) 0; cell = replicate (lengthOf Cell) 0 }
 
 -- the value as bytes
 abbrev pub valueOf : Parameters → Parameter → List ℕ

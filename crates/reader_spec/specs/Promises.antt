@@ -4,27 +4,33 @@ use Prim.Native.Nat.{ℕ}
 use mathlib.Core.Path.{_≡_}
 use mathlib.Core.Bool.{Bool, true, false}
 use mathlib.Core.List.{List}
+use lib.ListN.{take}
 use Rattle.request_spec.specs.declared.parameter.Parameter.{Parameter}
-use Rattle.reader_spec.specs.declared.reader.Buffer.the-variants.{Store}
 use Rattle.reader_spec.specs.declared.reader.Reader.{Reader}
-use Rattle.reader_spec.specs.declared.reader.Answer.{Answer}
-use Rattle.reader_spec.specs.Answering.{answering, sending}
-use Rattle.reader_spec.specs.Sending.{sent}
-use Rattle.reader_spec.specs.Sessions.{History, Session}
+use Rattle.reader_spec.specs.State.{stateOf}
+use Rattle.reader_spec.specs.Sessions.{History, remembers, Call, bytesSent, ReaderSession}
 
--- behind calls that execute nothing the reader is the same, the store too if nobody else wrote to it, and the same is told
+-- after calls that execute nothing the reader's state is the same, what is remembered of the store too if nobody else wrote to it, and the
+-- same is told
 pub record Same (alone : Bool) (h : History) (s : Reader) (held : List ℕ) (t : Reader) (kept : List ℕ) : Type 0 where
-  pub session : Session false t kept h
-  pub reader : t ≡ s
-  pub store : alone ≡ true → kept ≡ held
+  pub session : ReaderSession false t kept h
+  pub state : stateOf t ≡ stateOf s
+  pub store : alone ≡ true → take (remembers (h .last)) kept ≡ take (remembers (h .last)) held
 
--- a repeat changes no record and no byte, and sends what was sent when the command was executed
-pub record Repeated (executes again : Answer) (t : Reader) (store₁ out₁ kept out store₂ out₂ : List ℕ) : Type 0 where
-  pub reader : t ≡ executes .reader
-  pub unchanged : answering again store₂ out₂ ≡ sending t Store (executes .length) kept out
-  pub sends : sent Store (executes .length) kept out ≡ sent (executes .buffer) (executes .length) store₁ out₁
+-- a repeat changes no state and no byte of a buffer, and sends what the remembered bytes of the store hold at that moment
+pub record Recalls {alone : Bool} {h : History} {s : Reader} {held : List ℕ} (c : Call alone h s held) : Type 0 where
+  pub state : stateOf (c .answer .reader) ≡ stateOf s
+  pub buffers : c .left ≡ c .lent
+  pub sends : bytesSent c ≡ take (remembers (h .last)) (c .lent .store)
 
--- behind calls and power-ons that execute no write of a parameter its value is the same
+-- a call that repeats another: it changes no state and no byte of a buffer, and sends what was sent when the command was executed
+pub record Repeated {a b : Bool} {h k : History} {s t : Reader} {held kept : List ℕ} (first : Call a h s held) (again : Call b k t kept)
+    : Type 0 where
+  pub state : stateOf (again .answer .reader) ≡ stateOf (first .answer .reader)
+  pub buffers : again .left ≡ again .lent
+  pub sends : bytesSent again ≡ bytesSent first
+
+-- after calls and power-ons that execute no write of a parameter its value is the same
 pub record KeptValue (alone : Bool) (p : Parameter) (h : History) (t : Reader) (kept : List ℕ) (k : History) : Type 0 where
-  pub session : Session alone t kept k
+  pub session : ReaderSession alone t kept k
   pub value : k .value p ≡ h .value p

@@ -1,5 +1,5 @@
 -- A reader over many calls. What it has to remember and to answer is told from the calls' inputs, and from whether a call was refused: no
--- definition here looks into its record. Demand 2, of repeats: a request that repeats the identifier and command of the last one executed
+-- definition here looks into its state. Demand 2, of repeats: a request that repeats the identifier and command of the last one executed
 -- since power-on gets the stored reply and executes nothing. 01, The point reader. Assumes nothing.
 use Prim.Native.Nat.{ℕ}
 use mathlib.Core.Path.{_≡_}
@@ -7,10 +7,8 @@ use mathlib.Core.Bool.{Bool, true, false, cond, _&&_, not}
 use mathlib.Core.List.{List, [], _∷_}
 use mathlib.Core.Option.{Option, none, some, Option·map}
 use lib.Dec.{eqb}
-use lib.ListN.{length, drop}
+use lib.ListN.{length, drop, take}
 use Rattle.ground.specs.Refusals.{number}
-use Rattle.link_spec.specs.declared.event.Event.{Event}
-use Rattle.link_spec.specs.Events.{named}
 use Rattle.request_spec.specs.declared.parameter.Parameter.{Parameter}
 use Rattle.request_spec.specs.declared.parameter.Parameter.the-variants.{Speed, Settings, Cell}
 use Rattle.request_spec.specs.declared.command.Command.{Command}
@@ -26,36 +24,38 @@ use Rattle.reader_spec.specs.declared.reader.Asking.the-variants.{Nothin
 use Rattle.reader_spec.specs.declared.reader.Reader.{Reader}
 use Rattle.reader_spec.specs.declared.reader.Powered.{Powered}
 use Rattle.reader_spec.specs.declared.reader.Answer.{Answer}
+use Rattle.reader_spec.specs.State.{stateOf, freshState}
 use Rattle.reader_spec.specs.Asking.{asking}
 use Rattle.reader_spec.specs.Replies.{replyImage, replyTo}
-use Rattle.reader_spec.specs.Answering.{fresh, powering, poweredOn, answering, answered}
+use Rattle.reader_spec.specs.Sending.{bufferNamed, Buffers, sent}
+use Rattle.reader_spec.specs.Answering.{Input, powering, poweredOn, Answers}
 
 -- ---- what the calls so far tell
 
--- a command that was executed, and the reply that was meant
-pub record Executed : Type 0 where
+-- a command that was executed, and the reply that was due
+pub record Execution : Type 0 where
   pub identifier : ℕ
   pub code : ℕ
   pub reply : Reply
 
 -- the bytes of that reply's frame
-abbrev pub imageOf : Executed → List ℕ
+abbrev pub imageOf : Execution → List ℕ
 imageOf e = replyImage (e .identifier) (e .code) (e .reply)
 
 -- the value last written to each parameter, and the last command executed since power-on
 pub record History : Type 0 where
   pub value : Parameter → List ℕ
-  pub last : Option Executed
+  pub last : Option Execution
 
 -- speed 3, zeros in the others
-abbrev pub delivered : Parameter → List ℕ
-delivered Speed = 3 ∷ []
-delivered Settings = 0 ∷ 0 ∷ 0 ∷ 0 ∷ []
-delivered Cell = 0 ∷ 0 ∷ 0 ∷ 0 ∷ 0 ∷ 0 ∷ 0 ∷ 0 ∷ []
+abbrev pub freshValues : Parameter → List ℕ
+freshValues Speed = 3 ∷ []
+freshValues Settings = 0 ∷ 0 ∷ 0 ∷ 0 ∷ []
+freshValues Cell = 0 ∷ 0 ∷ 0 ∷ 0 ∷ 0 ∷ 0 ∷ 0 ∷ 0 ∷ []
 
 -- and no last command
 abbrev pub begun : History
-begun = record { value = delivered; last = none }
+begun = record { value = freshValues; last = none }
 
 -- a power-on forgets the last command and keeps all three parameters
 abbrev pub forgetting : History → History
@@ -66,7 +66,7 @@ abbrev pub poweredBy : History → ℕ → History
 poweredBy h refusal = cond (eqb refusal 0) (forgetting h) h
 
 -- step 3: identifier and command equal those of the last executed command
-abbrev pub repeats : Option Executed → ℕ → ℕ → Bool
+abbrev pub repeats : Option Execution → ℕ → ℕ → Bool
 repeats none identifier code = false
 repeats (some e) identifier code = eqb (e .identifier) identifier && eqb (e .code) code
 
@@ -76,13 +76,13 @@ isFrame Wrong = false
 isFrame Right = true
 
 -- one parameter gets another value
-abbrev pub written : (Parameter → List ℕ) → Parameter → List ℕ → Parameter → List ℕ
-written value p bytes q = cond (eqb (parameterCode p) (parameterCode q)) bytes (value q)
+abbrev pub valueSet : (Parameter → List ℕ) → Parameter → List ℕ → Parameter → List ℕ
+valueSet value p bytes q = cond (eqb (parameterCode p) (parameterCode q)) bytes (value q)
 
 -- what a command does to the values
 abbrev pub valuesAfter : (Parameter → List ℕ) → Command → List ℕ → Parameter → List ℕ
 valuesAfter value Header «data» = value
-valuesAfter value (Write p) «data» = written value p (drop 1 «data»)
+valuesAfter value (Write p) «data» = valueSet value p (drop 1 «data»)
 valuesAfter value (Read p) «data» = value
 valuesAfter value (Card card) «data» = value
 
@@ -91,102 +91,132 @@ abbrev pub bytesOf : List ℕ → Option Reply → List ℕ
 bytesOf content none = []
 bytesOf content (some reply) = replyImage (identifierOf content) (commandOf content) reply
 
-module _ (h : History) (content header antenna : List ℕ) where
+module _ (h : History) (i : Input) where
+  -- the input's identifier and command are those of the last executed command
+  abbrev pub repeatsLast : Bool
+  repeatsLast = repeats (h .last) (identifierOf (i .content)) (commandOf (i .content))
+
+  -- what its code and data ask for
+  abbrev pub asksFor : Acceptance
+  asksFor = acceptance (commandOf (i .content)) (dataOf (i .content))
+
   -- step 6: executed, and remembered; steps 4 and 5: not
   abbrev pub judgedNext : Acceptance → History
   judgedNext (Refused fault) = h
   judgedNext (Accepted command) =
       record {
-        value = valuesAfter (h .value) command (dataOf content);
+        value = valuesAfter (h .value) command (dataOf (i .content));
         last = some
-            (record { identifier = identifierOf content; code = commandOf content; reply = replyTo (h .value) command header antenna });
+            (record {
+              identifier = identifierOf (i .content);
+              code = commandOf (i .content);
+              reply = replyTo (h .value) command (i .header) (i .antenna);
+            });
       }
 
-  -- what is told behind a call that was not refused
-  abbrev pub next : Asking → History
-  next asked =
-      cond (isFrame asked)
-      (cond (repeats (h .last) (identifierOf content) (commandOf content)) h (judgedNext (acceptance (commandOf content) (dataOf content)))) h
+  -- what is told after a call that was not refused
+  abbrev pub nextAs : Asking → History
+  nextAs asked = cond (isFrame asked) (cond repeatsLast h (judgedNext asksFor)) h
 
-  -- and behind any call, by its refusal: one that was refused tells nothing
-  abbrev pub nextBy : Asking → ℕ → History
-  nextBy asked refusal = cond (eqb refusal 0) (next asked) h
+  abbrev pub next : History
+  next = nextAs (asking (i .event))
 
-  -- the reply meant: by steps 4 to 6
+  -- and after any call, by its refusal: one that was refused tells nothing
+  abbrev pub nextBy : ℕ → History
+  nextBy refusal = cond (eqb refusal 0) next h
+
+  -- the reply that is due: by steps 4 to 6
   abbrev pub judgedReply : Acceptance → Reply
   judgedReply (Refused fault) = NACK (nackOf fault)
-  judgedReply (Accepted command) = replyTo (h .value) command header antenna
+  judgedReply (Accepted command) = replyTo (h .value) command (i .header) (i .antenna)
 
   -- by steps 1 to 3
-  abbrev pub meant : Asking → Option Reply
-  meant Nothing = none
-  meant Wrong = some (NACK wrongCheck)
-  meant Right =
-      cond (repeats (h .last) (identifierOf content) (commandOf content)) (Option·map (λ (e : Executed). e .reply) (h .last))
-      (some (judgedReply (acceptance (commandOf content) (dataOf content))))
+  abbrev pub dueAs : Asking → Option Reply
+  dueAs Nothing = none
+  dueAs Wrong = some (NACK wrongCheck)
+  dueAs Right = cond repeatsLast (Option·map (λ (e : Execution). e .reply) (h .last)) (some (judgedReply asksFor))
 
-  abbrev pub toSend : Asking → List ℕ
-  toSend asked = bytesOf content (meant asked)
+  abbrev pub replyDue : Option Reply
+  replyDue = dueAs (asking (i .event))
 
--- a FRAME that repeats the last executed command
-abbrev pub isRepeat : History → List ℕ → Asking → Bool
-isRepeat h content asked = isFrame asked && repeats (h .last) (identifierOf content) (commandOf content)
+  abbrev pub toSend : List ℕ
+  toSend = bytesOf (i .content) replyDue
 
--- a FRAME that is executed, unless the call refuses: no repeat, and accepted
-abbrev pub executes : History → List ℕ → Asking → Bool
-executes h content asked =
-    isFrame asked
-    && (not (repeats (h .last) (identifierOf content) (commandOf content)) && isAccepted (acceptance (commandOf content) (dataOf content)))
+  -- a FRAME that repeats the last executed command
+  abbrev pub isRepeat : Bool
+  isRepeat = isFrame (asking (i .event)) && repeatsLast
+
+  -- a FRAME that is executed, unless the call refuses: no repeat, and accepted
+  abbrev pub isExecutedAs : Asking → Bool
+  isExecutedAs asked = isFrame asked && (not repeatsLast && isAccepted asksFor)
+
+  abbrev pub isExecuted : Bool
+  isExecuted = isExecutedAs (asking (i .event))
 
 -- ---- a session
 
--- whether the store that a call is lent is as the last call left it
-abbrev pub Kept : Bool → List ℕ → List ℕ → Type 0
-Kept true held store = held ≡ store
-Kept false held store = Unit {0}
+-- how many bytes of the store are remembered: the last executed command's reply
+abbrev pub remembers : Option Execution → ℕ
+remembers none = 0
+remembers (some e) = length (imageOf e)
 
--- Calls in a row from a fresh reader, each with the reader that the last one answered; what the store held as the last call returned; and
--- what the calls tell. Each may be given any event, content, header, antenna's answer, store and out. `alone` says that nobody else
--- writes to the store.
-pub data Session (alone : Bool) : Reader → List ℕ → History → Type 0 where
-  made : (r : Reader) (store : List ℕ) → r ≡ fresh → Session alone r store begun
-  powered : {s : Reader} {held : List ℕ} {h : History} → Session alone s held h
+-- whether the store that a call is lent is, as far as it is remembered, as the last call left it
+abbrev pub StoreKept : Bool → History → List ℕ → List ℕ → Type 0
+StoreKept true h held store = take (remembers (h .last)) store ≡ take (remembers (h .last)) held
+StoreKept false h held store = Unit {0}
+
+-- One call in a row of calls, of a reader after calls that tell this and left the store so. It may be given any event, content, header,
+-- antenna's answer, store and out. `alone` says that nobody else writes to the store.
+pub record Call (alone : Bool) (h : History) (s : Reader) (held : List ℕ) : Type 0 where
+  pub input : Input
+  pub lent : Buffers
+  pub answer : Answer
+  pub left : Buffers
+  pub kept : StoreKept alone h held (lent .store)
+  pub whole : length (input .header) ≡ headerLength
+  pub says : Answers s input lent answer left
+
+module _ {alone : Bool} {h : History} {s : Reader} {held : List ℕ} (c : Call alone h s held) where
+  -- it was not refused
+  abbrev pub Done : Type 0
+  Done = number (c .answer .refusal) ≡ 0
+
+  -- what it sends
+  abbrev pub bytesSent : List ℕ
+  bytesSent = sent (bufferNamed (c .answer .buffer)) (c .answer .length) (c .left)
+
+  -- what is told after it
+  abbrev pub told : History
+  told = nextBy h (c .input) (number (c .answer .refusal))
+
+-- Calls and power-ons in a row from a fresh reader, each with the reader that the last one answered; what the store held as the last call
+-- returned; and what they tell.
+pub data ReaderSession (alone : Bool) : Reader → List ℕ → History → Type 0 where
+  made : (r : Reader) (store : List ℕ) → stateOf r ≡ freshState → ReaderSession alone r store begun
+  powered : {s : Reader} {held : List ℕ} {h : History} → ReaderSession alone s held h
       → (r : Powered)
-      → powering r ≡ poweredOn s
-      → Session alone (r .reader) held (poweredBy h (number (r .refusal)))
-  called : {s : Reader} {held : List ℕ} {h : History} → Session alone s held h
-      → (r : Answer) (event : Event) (content header antenna store out store′ out′ : List ℕ)
-      → Kept alone held store
-      → length header ≡ headerLength
-      → answering r store′ out′ ≡ answered s (named event) content header antenna store out
-      → Session alone (r .reader) store′ (nextBy h content header antenna (asking (named event)) (number (r .refusal)))
+      → powering r ≡ poweredOn (stateOf s)
+      → ReaderSession alone (r .reader) held (poweredBy h (number (r .refusal)))
+  called : {s : Reader} {held : List ℕ} {h : History} → ReaderSession alone s held h
+      → (c : Call alone h s held)
+      → ReaderSession alone (c .answer .reader) (c .left .store) (told c)
 
 -- calls in a row that execute nothing, refused ones too, from one reader and store to another
 pub data Idle (alone : Bool) (h : History) (s : Reader) (held : List ℕ) : Reader → List ℕ → Type 0 where
   rests : Idle alone h s held s held
-  heeds : {t : Reader} {kept : List ℕ} → Idle alone h s held t kept
-      → (r : Answer) (event : Event) (content header antenna store out store′ out′ : List ℕ)
-      → Kept alone kept store
-      → length header ≡ headerLength
-      → (number (r .refusal) ≡ 0 → executes h content (asking (named event)) ≡ false)
-      → answering r store′ out′ ≡ answered t (named event) content header antenna store out
-      → Idle alone h s held (r .reader) store′
+  passes : {t : Reader} {kept : List ℕ} → Idle alone h s held t kept
+      → (c : Call alone h t kept)
+      → (Done c → isExecuted h (c .input) ≡ false)
+      → Idle alone h s held (c .answer .reader) (c .left .store)
 
 -- calls and power-ons in a row that execute no write of this parameter, from one reader, store and history to another
 pub data Unwritten (alone : Bool) (p : Parameter) (s : Reader) (held : List ℕ) (h : History) : Reader → List ℕ → History → Type 0 where
   still : Unwritten alone p s held h s held h
   power : {t : Reader} {kept : List ℕ} {k : History} → Unwritten alone p s held h t kept k
       → (r : Powered)
-      → powering r ≡ poweredOn t
+      → powering r ≡ poweredOn (stateOf t)
       → Unwritten alone p s held h (r .reader) kept (poweredBy k (number (r .refusal)))
   other : {t : Reader} {kept : List ℕ} {k : History} → Unwritten alone p s held h t kept k
-      → (r : Answer) (event : Event) (content header antenna store out store′ out′ : List ℕ)
-      → Kept alone kept store
-      → length header ≡ headerLength
-      → (number (r .refusal) ≡ 0
-      → executes k content (asking (named event)) ≡ true
-      → acceptance (commandOf content) (dataOf content) ≡ Accepted (Write p)
-      → ⊥)
-      → answering r store′ out′ ≡ answered t (named event) content header antenna store out
-      → Unwritten alone p s held h (r .reader) store′
-      (nextBy k content header antenna (asking (named event)) (number (r .refusal)))
+      → (c : Call alone k t kept)
+      → (Done c → isExecuted k (c .input) ≡ true → asksFor k (c .input) ≡ Accepted (Write p) → ⊥)
+      → Unwritten alone p s held h (c .answer .reader) (c .left .store) (told c)

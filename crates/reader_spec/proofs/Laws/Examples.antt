@@ -2,16 +2,23 @@
 -- Assumes nothing.
 use mathlib.Core.Path.{refl}
 use Rattle.ground.specs.Each.{Each, none, _and_}
+use Rattle.checks.specs.Fcs.{shiftStep, shiftSteps, byteStep, run, residue, fcs, fcsBytes}
+use Rattle.checks.specs.Check.{checkOf, withCheck}
+use Rattle.wire_spec.specs.Stuffing.{stuffed, stuffing}
+use Rattle.wire_spec.specs.Image.{image}
+use Rattle.link_spec.specs.Frame.{pointContent}
 use Rattle.request_spec.specs.Parameters.{parameterWith, isValueOf}
 use Rattle.request_spec.specs.Acceptance.{acceptance}
 use Rattle.reader_spec.specs.Replies.{replyTo}
-use Rattle.reader_spec.specs.Answering.{poweredOn}
 use Rattle.reader_spec.specs.Sending.{sent}
+use Rattle.reader_spec.specs.Answering.{poweredOn, framed, answered}
 use Rattle.reader_spec.specs.Examples.{Holds, examples}
 
 pub each-holds : Each Holds examples
-unfolding parameterWith isValueOf acceptance replyTo poweredOn sent
+unfolding shiftStep shiftSteps byteStep run residue fcs fcsBytes checkOf withCheck stuffed stuffing image pointContent parameterWith isValueOf acceptance
+    replyTo sent poweredOn framed answered
 each-holds =
     refl and refl and refl and refl and refl and refl and refl and refl and refl and refl and refl and refl
-    and refl and refl and refl and refl and refl and refl and refl and refl and refl and refl and refl
-    and none
+    and refl and refl and refl and refl and refl and refl and refl and refl and refl and refl and refl and refl
+    and refl and refl and refl and refl and refl and refl and refl and refl and refl and refl and refl and refl
+    and refl and refl and refl and refl and none

@@ -5,106 +5,99 @@ use mathlib.Core.Bool.{Bool, true, false, cond, not, _&&_, true≢false}
 use mathlib.Core.List.{List}
 use mathlib.Core.Option.{Option, none, some}
 use lib.Dec.{eqb}
-use lib.ListN.{length}
+use lib.ListN.{take}
 use borrow.Author.Tests.{eqb-true}
 use Prim.Native.Nat.{ℕ}
 use Rattle.ground.specs.Refusals.{number}
 use Rattle.ground.proofs.Laws.Choice.{cond-elim, by-test}
-use Rattle.link_spec.specs.Events.{Name, named}
 use Rattle.request_spec.specs.declared.command.Acceptance.{Acceptance}
 use Rattle.request_spec.specs.declared.command.Acceptance.the-variants.{Accepted, Refused}
 use Rattle.request_spec.specs.Limits.{headerLength}
-use Rattle.request_spec.specs.Acceptance.{acceptance, isAccepted}
-use Rattle.request_spec.specs.Replies.{identifierOf, commandOf, dataOf}
+use Rattle.request_spec.specs.Acceptance.{isAccepted}
 use Rattle.reader_spec.specs.declared.reader.Asking.{Asking}
 use Rattle.reader_spec.specs.declared.reader.Asking.the-variants.{Nothing, Wrong, Right}
 use Rattle.reader_spec.specs.declared.reader.Reader.{Reader}
+use Rattle.reader_spec.specs.State.{State, stateOf}
 use Rattle.reader_spec.specs.Asking.{asking}
-use Rattle.reader_spec.specs.Answering.{Answered, judged, stepped, answered}
-use Rattle.reader_spec.specs.Sessions.{Executed, History, repeats, judgedNext, next, executes, Kept, Session, called, Idle, rests, heeds}
+use Rattle.reader_spec.specs.Sending.{Buffers}
+use Rattle.reader_spec.specs.Answering.{Input, Answered, answerSays, judged, stepped}
+use Rattle.reader_spec.specs.Sessions.{Execution, History, repeatsLast, asksFor, judgedNext, nextAs, next, isExecutedAs, isExecuted, remembers, StoreKept, Call, Done, ReaderSession, called, Idle, rests, passes}
 use Rattle.reader_spec.specs.Promises.{Same}
-use Rattle.reader_spec.proofs.Laws.Answering.{row-elim}
-use Rattle.reader_spec.proofs.Laws.Agreeing.{memoryOf, Agrees, agrees-lent, recalledAs, judgedAs, framed-told, told-step}
-use Rattle.reader_spec.proofs.Laws.Sessions.{session-agrees}
+use Rattle.reader_spec.proofs.Laws.Answering.{row-elim, steps-fine}
+use Rattle.reader_spec.proofs.Laws.Agreeing.{memoryOf, recalledAs, judgedAs, framed-told}
+use Rattle.reader_spec.proofs.Laws.Sessions.{session-agrees, loose-call}
 
-judged-nothing : (h : History) (content header antenna : List ℕ) (k : Acceptance) → isAccepted k ≡ false
-    → judgedNext h content header antenna k ≡ h
-judged-nothing h content header antenna (Refused fault) idle = refl
-judged-nothing h content header antenna (Accepted command) idle = absurd (true≢false idle)
+-- ---- such a call tells nothing new
 
--- tell nothing new
-pub executes-nothing : (h : History) (content header antenna : List ℕ) (asked : Asking) → executes h content asked ≡ false
-    → next h content header antenna asked ≡ h
-executes-nothing h content header antenna Nothing idle = refl
-executes-nothing h content header antenna Wrong idle = refl
-executes-nothing h content header antenna Right idle =
-    by-test (λ (t : Bool). (not t && isAccepted k) ≡ false → cond t h (judgedNext h content header antenna k) ≡ h)
-    (repeats (h .last) (identifierOf content) (commandOf content)) (λ _ _. refl) (λ _ n. judged-nothing h content header antenna k n) idle
-  where
-    k : Acceptance
-    k = acceptance (commandOf content) (dataOf content)
+judged-nothing : (h : History) (i : Input) (k : Acceptance) → isAccepted k ≡ false → judgedNext h i k ≡ h
+judged-nothing h i (Refused fault) idle = refl
+judged-nothing h i (Accepted command) idle = absurd (true≢false idle)
 
--- change neither the record nor the store
-record Unchanged (s : Reader) (store : List ℕ) (a : Answered) : Type 0 where
-  reader : a .reader ≡ s
-  kept : a .store ≡ store
+executes-nothing-as : (h : History) (i : Input) (asked : Asking) → isExecutedAs h i asked ≡ false → nextAs h i asked ≡ h
+executes-nothing-as h i Nothing idle = refl
+executes-nothing-as h i Wrong idle = refl
+executes-nothing-as h i Right idle =
+    by-test (λ (t : Bool). (not t && isAccepted (asksFor h i)) ≡ false → cond t h (judgedNext h i (asksFor h i)) ≡ h)
+    (repeatsLast h i) (λ _ _. refl) (λ _ n. judged-nothing h i (asksFor h i) n) idle
 
-module _ (s : Reader) (header antenna store out content : List ℕ) where
-  judged-keeps : (k : Acceptance) → isAccepted k ≡ false
-      → Unchanged s store (judged s header antenna store out (identifierOf content) (commandOf content) (dataOf content) k)
-  judged-keeps (Refused fault) idle = record { reader = refl; kept = refl }
+pub executes-nothing : (h : History) (i : Input) → isExecuted h i ≡ false → next h i ≡ h
+executes-nothing h i = executes-nothing-as h i (asking (i .event))
+
+-- ---- and changes neither the state nor the store
+
+record Unchanged (s : State) (lent : Buffers) (a : Answered) : Type 0 where
+  state : a .state ≡ s
+  kept : a .left .store ≡ lent .store
+
+module _ (s : State) (i : Input) (lent : Buffers) where
+  judged-keeps : (k : Acceptance) → isAccepted k ≡ false → Unchanged s lent (judged s i lent k)
+  judged-keeps (Refused fault) idle = record { state = refl; kept = refl }
   judged-keeps (Accepted command) idle = absurd (true≢false idle)
 
-  recalled-keeps : (last : Option Executed) → Unchanged s store (recalledAs s store out last)
-  recalled-keeps none = record { reader = refl; kept = refl }
-  recalled-keeps (some e) = record { reader = refl; kept = refl }
+  recalled-keeps : (last : Option Execution) → Unchanged s lent (recalledAs s lent last)
+  recalled-keeps none = record { state = refl; kept = refl }
+  recalled-keeps (some e) = record { state = refl; kept = refl }
 
-  step-keeps : (asked : Asking) (h : History) → s .memory ≡ memoryOf (h .last) → executes h content asked ≡ false
-      → Unchanged s store (stepped s header antenna store out asked content)
-  step-keeps Nothing h remembered idle = record { reader = refl; kept = refl }
-  step-keeps Wrong h remembered idle = record { reader = refl; kept = refl }
+  step-keeps : (asked : Asking) (h : History) → s .last ≡ memoryOf (h .last) → isExecutedAs h i asked ≡ false
+      → Unchanged s lent (stepped s i lent asked)
+  step-keeps Nothing h remembered idle = record { state = refl; kept = refl }
+  step-keeps Wrong h remembered idle = record { state = refl; kept = refl }
   step-keeps Right h remembered idle =
-      subst⁻¹ (Unchanged s store) (framed-told s header antenna store out content (h .last) remembered)
+      subst⁻¹ (Unchanged s lent) (framed-told s i lent (h .last) remembered)
       (by-test
-      (λ (t : Bool). (not t && isAccepted k) ≡ false
-      → Unchanged s store (cond t (recalledAs s store out (h .last)) (judgedAs s header antenna store out content)))
-      (repeats (h .last) (identifierOf content) (commandOf content)) (λ _ _. recalled-keeps (h .last)) (λ _ n. judged-keeps k n) idle)
-    where
-      k : Acceptance
-      k = acceptance (commandOf content) (dataOf content)
+      (λ (t : Bool). (not t && isAccepted (asksFor h i)) ≡ false → Unchanged s lent (cond t (recalledAs s lent (h .last)) (judgedAs s i lent)))
+      (repeatsLast h i) (λ _ _. recalled-keeps (h .last)) (λ _ n. judged-keeps (asksFor h i) n) idle)
 
-  call-keeps : (alone : Bool) (event : Name) (h : History) → Agrees alone s store h → length header ≡ headerLength
-      → (answered s event content header antenna store out .refusal ≡ 0 → executes h content (asking event) ≡ false)
-      → Unchanged s store (answered s event content header antenna store out)
-  call-keeps alone event h a whole =
-      row-elim s event content header antenna store out
-      (λ (a : Answered). (a .refusal ≡ 0 → executes h content (asking event) ≡ false) → Unchanged s store a)
-      (λ _ _ _. record { reader = refl; kept = refl })
-      (λ lent _ idle. step-keeps (asking event) h (a .memory)
-      (idle (told-step alone s header antenna store out whole lent (asking event) content h a .none)))
+call-keeps : {alone : Bool} {h : History} {s : Reader} {held : List ℕ} → ReaderSession false s held h → (c : Call alone h s held)
+    → (Done c → isExecuted h (c .input) ≡ false)
+    → Unchanged (stateOf s) (c .lent) (answerSays (c .answer) (c .left))
+call-keeps {h} {s} se c idle =
+    subst⁻¹ (Unchanged (stateOf s) (c .lent)) (c .says)
+    (row-elim (stateOf s) (c .input) (c .lent)
+    (λ (a : Answered). (a .refusal ≡ 0 → isExecuted h (c .input) ≡ false) → Unchanged (stateOf s) (c .lent) a)
+    (λ _ _ _. record { state = refl; kept = refl })
+    (λ well _ idle. step-keeps (stateOf s) (c .input) (c .lent) (asking (c .input .event)) h (session-agrees se .memory)
+    (idle (steps-fine (stateOf s) (c .input) (c .lent) (asking (c .input .event)))))
+    (λ none. idle (ap (λ (a : Answered). a .refusal) (c .says) ∙ none)))
 
 told-same : (n : ℕ) {h k : History} → (n ≡ 0 → k ≡ h) → cond (eqb n 0) k h ≡ h
 told-same n {h} {k} same = cond-elim (λ (l : History). l ≡ h) (eqb n 0) (λ e. same (eqb-true n 0 e)) (λ _. refl)
 
-kept-same : (alone : Bool) {held store : List ℕ} → Kept alone held store → alone ≡ true → held ≡ store
-kept-same true kept single = kept
-kept-same false kept single = absurd (true≢false (sym single))
+kept-same : (alone : Bool) (h : History) (held store : List ℕ) → StoreKept alone h held store → alone ≡ true
+    → take (remembers (h .last)) store ≡ take (remembers (h .last)) held
+kept-same true h held store kept single = kept
+kept-same false h held store kept single = absurd (true≢false (sym single))
 
 -- so after any sequence of them all is as before
-pub idle-keeps : {alone : Bool} {s t : Reader} {held kept : List ℕ} {h : History} → Session false s held h → Idle alone h s held t kept
+pub idle-keeps : {alone : Bool} {s t : Reader} {held kept : List ℕ} {h : History} → ReaderSession false s held h → Idle alone h s held t kept
     → Same alone h s held t kept
-idle-keeps se rests = record { session = se; reader = refl; store = λ _. refl }
-idle-keeps {alone} {h = h} se (heeds {t} i r event content header antenna store out store′ out′ lent whole idle says) =
+idle-keeps se rests = record { session = se; state = refl; store = λ _. refl }
+idle-keeps {alone} {h = h} se (passes {t} {kept} i c idle) =
     let same = idle-keeps se i in
-    let agrees = agrees-lent false (session-agrees (same .session)) tt in
-    let none = ap (λ (a : Answered). a .refusal) says in
-    let u = subst⁻¹ (Unchanged t store) says
-    (call-keeps t header antenna store out content false (named event) h agrees whole (λ done. idle (none ∙ done)))
-    in
-    let told = told-same (number (r .refusal)) (λ done. executes-nothing h content header antenna (asking (named event)) (idle done)) in
+    let u = call-keeps (same .session) c idle in
+    let told = told-same (number (c .answer .refusal)) (λ done. executes-nothing h (c .input) (idle done)) in
     record {
-      session = subst (Session false (r .reader) store′) told
-          (called (same .session) r event content header antenna store out store′ out′ tt whole says);
-      reader = u .reader ∙ same .reader;
-      store = λ single. u .kept ∙ sym (kept-same alone lent single) ∙ same .store single;
+      session = subst (ReaderSession false (c .answer .reader) (c .left .store)) told (called (same .session) (loose-call c));
+      state = u .state ∙ same .state;
+      store = λ single. ap (take (remembers (h .last))) (u .kept) ∙ kept-same alone h kept (c .lent .store) (c .kept) single ∙ same .store single;
     }

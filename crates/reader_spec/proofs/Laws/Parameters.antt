@@ -10,7 +10,7 @@ use Rattle.request_spec.specs.declared.parameter.Parameter.the-variants.{Speed,
 use Rattle.request_spec.specs.Parameters.{lengthOf}
 use Rattle.reader_spec.specs.declared.reader.Parameters.{Parameters}
 use Rattle.reader_spec.specs.Parameters.{valueOf, withValue}
-use Rattle.reader_spec.specs.Sessions.{written}
+use Rattle.reader_spec.specs.Sessions.{valueSet}
 
 -- a value of one byte is that byte
 one-byte : (value : List ℕ) → length value ≡ 1 → getD value 0 0 ∷ [] ≡ value
@@ -20,7 +20,7 @@ one-byte (b ∷ d ∷ more) one = absurd (omega arith)
 
 -- what is written to one parameter is its value, and the others stay
 pub value-written : (ps : Parameters) (p : Parameter) (value : List ℕ) → length value ≡ lengthOf p → (q : Parameter)
-    → valueOf (withValue ps p value) q ≡ written (valueOf ps) p value q
+    → valueOf (withValue ps p value) q ≡ valueSet (valueOf ps) p value q
 value-written ps Speed value whole Speed = one-byte value whole
 value-written ps Speed value whole Settings = refl
 value-written ps Speed value whole Cell = refl

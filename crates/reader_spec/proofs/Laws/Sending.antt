@@ -8,22 +8,22 @@ use lib.ListN.{length, take, drop, length-append}
 use lib.Seq.{take-append-seam}
 use borrow.Author.Tests.{le-ltb}
 use Rattle.ground.specs.Laying.{onto}
-use Rattle.reader_spec.specs.declared.reader.Buffer.the-variants.{Out, Store}
-use Rattle.reader_spec.specs.Sending.{sent}
+use Rattle.reader_spec.specs.Sending.{OUT, STORE, Buffers, buffersOf, sent}
 
 -- nothing of out is nothing
-pub sent-none : (store out : List ℕ) → sent Out 0 store out ≡ []
+pub sent-none : (lent : Buffers) → sent OUT 0 lent ≡ []
 unfolding sent
-sent-none store out = rw (le-ltb (length out) 0 (omega arith))
+sent-none lent = rw (le-ltb (length (lent .out)) 0 (omega arith))
 
 -- bytes put to the front of out are what is sent of it
-pub sent-out : (bytes store out : List ℕ) → sent Out (length bytes) store (onto bytes out) ≡ bytes
+pub sent-out : (bytes store out : List ℕ) → sent OUT (length bytes) (buffersOf store (onto bytes out)) ≡ bytes
 unfolding sent
 sent-out bytes store out =
     let rest = drop (length bytes) out in
     let long : length bytes ≤ length (bytes ++ rest) = simp length-append (omega arith) in
     rw (le-ltb (length (bytes ++ rest)) (length bytes) long) (take-append-seam bytes rest)
 
-pub sent-store : (n : ℕ) (store out : List ℕ) → n ≤ length store → sent Store n store out ≡ take n store
+-- of the store its front is sent
+pub sent-store : (n : ℕ) (lent : Buffers) → n ≤ length (lent .store) → sent STORE n lent ≡ take n (lent .store)
 unfolding sent
-sent-store n store out within = rw (le-ltb (length store) n within)
+sent-store n lent within = rw (le-ltb (length (lent .store)) n within)

@@ -1,174 +1,182 @@
--- Demand 2 for the reader: over any calls in a row, what it sends is what is meant, and a repeat sends what is stored and changes nothing.
+-- Demand 2 for the reader: over any calls in a row, what it sends is what is due, and a repeat sends what is stored and changes nothing.
 -- Assumes nothing.
 use mathlib.Core.Path.{_≡_, refl, sym, ap, subst, subst⁻¹, _∙_}
-use mathlib.Core.Bool.{Bool, true, false, true≢false}
-use mathlib.Core.List.{List, _∷_}
-use mathlib.Core.Option.{some}
-use Prim.Native.Nat.{ℕ, _≤_}
+use mathlib.Core.Bool.{Bool, true, false, cond, not, _&&_, true≢false, false≢true, and-false, and-eq-true-iff}
+use mathlib.Core.List.{List}
+use mathlib.Core.Option.{Option, none, some}
+use Prim.Native.Nat.{ℕ}
 use native.Mathlib.Omega.{arith}
 use lib.ListN.{length, take}
-use borrow.Author.Tests.{eqb-false, eq-eqb}
+use borrow.Author.Tests.{eqb-false}
 use Rattle.ground.specs.Refusals.{number}
-use Rattle.link_spec.specs.declared.event.Event.{Event}
-use Rattle.link_spec.specs.declared.event.Event.the-variants.{Frame, Check}
-use Rattle.link_spec.specs.Limits.{mostData}
-use Rattle.link_spec.specs.Events.{Name, FRAME, CHECK, named}
+use Rattle.ground.proofs.Laws.Choice.{by-test}
+use Rattle.link_spec.specs.Events.{FRAME, CHECK}
 use Rattle.request_spec.specs.declared.command.Acceptance.{Acceptance}
-use Rattle.request_spec.specs.declared.command.Acceptance.the-variants.{Refused}
-use Rattle.request_spec.specs.declared.command.Fault.{Fault}
-use Rattle.request_spec.specs.Limits.{headerLength}
-use Rattle.request_spec.specs.Acceptance.{acceptance, nackOf}
-use Rattle.request_spec.specs.Replies.{NACK, sign, wrongCheck, identifierOf, commandOf, dataOf}
+use Rattle.request_spec.specs.declared.command.Acceptance.the-variants.{Accepted, Refused}
+use Rattle.request_spec.specs.declared.command.Command.{Command}
+use Rattle.request_spec.specs.Acceptance.{isAccepted}
+use Rattle.request_spec.specs.Replies.{NACK, sign, wrongCheck, identifierOf, commandOf}
 use Rattle.reader_spec.specs.declared.reader.Asking.{Asking}
-use Rattle.reader_spec.specs.declared.reader.Buffer.the-variants.{Store}
+use Rattle.reader_spec.specs.declared.reader.Asking.the-variants.{Nothing, Wrong, Right}
 use Rattle.reader_spec.specs.declared.reader.Reader.{Reader}
-use Rattle.reader_spec.specs.declared.reader.Answer.{Answer}
+use Rattle.reader_spec.specs.State.{State, stateOf, freshState, badState}
 use Rattle.reader_spec.specs.Asking.{asking}
-use Rattle.reader_spec.specs.Replies.{replyImage}
-use Rattle.reader_spec.specs.Answering.{fresh, badState, PoweredOn, Answered, Lent, answering, sending, judged, stepped, answered}
+use Rattle.reader_spec.specs.Replies.{replyImage, replyTo}
 use Rattle.reader_spec.specs.Sending.{sent}
-use Rattle.reader_spec.specs.Sessions.{Executed, imageOf, History, begun, poweredBy, repeats, next, nextBy, judgedReply, toSend, isRepeat, Kept, Session, made, powered, called}
-use Rattle.reader_spec.proofs.Laws.Answering.{powers-on, front-is, does-steps, row-elim}
+use Rattle.reader_spec.specs.Answering.{PoweredOn, Input, Answered, Lent, answerSays, executed, stepped}
+use Rattle.reader_spec.specs.Sessions.{Execution, imageOf, History, begun, poweredBy, repeats, isFrame, bytesOf, repeatsLast, asksFor, next, nextBy, judgedReply, toSend, isRepeat, isExecuted, remembers, Call, Done, bytesSent, told, ReaderSession, made, powered, called}
+use Rattle.reader_spec.specs.Promises.{Recalls}
+use Rattle.reader_spec.proofs.Laws.State.{readerWith, state-back}
+use Rattle.reader_spec.proofs.Laws.Answering.{powers-on, row-elim}
 use Rattle.reader_spec.proofs.Laws.Sending.{sent-store}
-use Rattle.reader_spec.proofs.Laws.Agreeing.{memoryOf, Fits, image-room, framed-told, Agrees, agrees-fresh, agrees-powered, agrees-good, agrees-lent, told-step}
+use Rattle.reader_spec.proofs.Laws.Agreeing.{memoryOf, Fits, image-room, recalledAs, judgedAs, framed-told, Agrees, agrees-fresh, agrees-powered, agrees-good, agrees-lent, tells-step}
 
 -- ---- every call of a session
 
 -- what a call leaves and sends
-record Call (alone : Bool) (h : History) (content header antenna : List ℕ) (asked : Asking) (a : Answered) : Type 0 where
-  agrees : Agrees alone (a .reader) (a .store) (nextBy h content header antenna asked (a .refusal))
-  sends : a .refusal ≡ 0
-      → (isRepeat h content asked ≡ true → alone ≡ true)
-      → sent (a .buffer) (a .length) (a .store) (a .out) ≡ toSend h content header antenna asked
+record Follows (alone : Bool) (h : History) (i : Input) (a : Answered) : Type 0 where
+  agrees : Agrees alone (a .state) (a .left .store) (nextBy h i (a .refusal))
+  sends : a .refusal ≡ 0 → (isRepeat h i ≡ true → alone ≡ true) → sent (a .buffer) (a .length) (a .left) ≡ toSend h i
 
-module _ (alone : Bool) (s : Reader) (h : History) (event : Name) (content header antenna store out : List ℕ) where
-  call-told : {held store′ out′ : List ℕ} (r : Answer) → Agrees alone s held h → Kept alone held store → length header ≡ headerLength
-      → answering r store′ out′ ≡ answered s event content header antenna store out
-      → Call alone h content header antenna (asking event) (answering r store′ out′)
-  call-told r a kept whole says =
-      let lent = agrees-lent alone a kept in
-      subst⁻¹ (Call alone h content header antenna (asking event)) says
-      (row-elim s event content header antenna store out (Call alone h content header antenna (asking event))
-      (λ why bad. record { agrees = rw bad lent; sends = λ done. absurd (eqb-false (number why) 0 bad done) })
-      (λ good fine. let a′ = stepped s header antenna store out (asking event) content in
-      let t = told-step alone s header antenna store out whole good (asking event) content h lent in
-      record {
-        agrees = subst⁻¹ (λ (n : ℕ). Agrees alone (a′ .reader) (a′ .store) (nextBy h content header antenna (asking event) n)) (t .none)
-            (t .agrees);
-        sends = λ _ own. t .sends own;
-      }))
+call-follows : {alone : Bool} {h : History} {s : Reader} {held : List ℕ} → Agrees alone (stateOf s) held h → (c : Call alone h s held)
+    → Follows alone h (c .input) (answerSays (c .answer) (c .left))
+call-follows {alone} {h} {s} a c =
+    let i = c .input in
+    let lent = agrees-lent alone a (c .kept) in
+    subst⁻¹ (Follows alone h i) (c .says)
+    (row-elim (stateOf s) i (c .lent) (Follows alone h i)
+    (λ why bad. record { agrees = rw bad lent; sends = λ done. absurd (eqb-false (number why) 0 bad done) })
+    (λ well fine. let t = tells-step alone (stateOf s) i (c .lent) (c .whole) well (asking (i .event)) h lent in
+    let a′ = stepped (stateOf s) i (c .lent) (asking (i .event)) in
+    record {
+      agrees = subst⁻¹ (λ (n : ℕ). Agrees alone (a′ .state) (a′ .left .store) (nextBy h i n)) (t .none) (t .agrees);
+      sends = λ _ own. t .sends own;
+    }))
 
-pub session-agrees : {alone : Bool} {s : Reader} {held : List ℕ} {h : History} → Session alone s held h → Agrees alone s held h
-session-agrees {alone} (made r store is) = subst⁻¹ (λ (s : Reader). Agrees alone s store begun) is (agrees-fresh alone store)
+pub session-agrees : {alone : Bool} {s : Reader} {held : List ℕ} {h : History} → ReaderSession alone s held h
+    → Agrees alone (stateOf s) held h
+session-agrees {alone} (made r store is) = subst⁻¹ (λ (s : State). Agrees alone s store begun) is (agrees-fresh alone store)
 session-agrees {alone} {held = held} (powered {s} {h = h} se r says) =
     let a = session-agrees se in
-    subst⁻¹ (λ (p : PoweredOn). Agrees alone (p .reader) held (poweredBy h (p .refusal))) (says ∙ powers-on s (agrees-good a)) (agrees-powered a)
-session-agrees {alone} (called {s} {h = h} se r event content header antenna store out store′ out′ kept whole says) =
-    call-told alone s h (named event) content header antenna store out r (session-agrees se) kept whole says .agrees
+    subst⁻¹ (λ (p : PoweredOn). Agrees alone (p .state) held (poweredBy h (p .refusal))) (says ∙ powers-on (stateOf s) (agrees-good a))
+    (agrees-powered a)
+session-agrees (called se c) = call-follows (session-agrees se) c .agrees
 
--- a session in which nobody else wrote to the store is one in which somebody may have
-pub loose : {alone : Bool} {s : Reader} {held : List ℕ} {h : History} → Session alone s held h → Session false s held h
+-- a call in which nobody else wrote to the store is one in which somebody may have, and so is a session
+abbrev pub loose-call : {alone : Bool} {h : History} {s : Reader} {held : List ℕ} → Call alone h s held → Call false h s held
+loose-call c =
+    record { input = c .input; lent = c .lent; answer = c .answer; left = c .left; kept = tt; whole = c .whole; says = c .says }
+
+pub loose : {alone : Bool} {s : Reader} {held : List ℕ} {h : History} → ReaderSession alone s held h → ReaderSession false s held h
 loose (made r store is) = made r store is
 loose (powered se r says) = powered (loose se) r says
-loose (called se r event content header antenna store out store′ out′ kept whole says) =
-    called (loose se) r event content header antenna store out store′ out′ tt whole says
+loose (called se c) = called (loose se) (loose-call c)
 
--- one begins with a fresh reader
-pub fresh-session : {alone : Bool} (store : List ℕ) → Session alone fresh store begun
-fresh-session store = made fresh store refl
+-- a session begins with a fresh reader
+pub fresh-session : {alone : Bool} (store : List ℕ) → ReaderSession alone (readerWith freshState) store begun
+fresh-session store = made (readerWith freshState) store (state-back freshState)
 
--- speed is 3..10 and the remembered length at most 130 in every record that is reached: no call finds a bad state
-pub session-good : {alone : Bool} {s : Reader} {held : List ℕ} {h : History} → Session alone s held h → badState s ≡ false
+-- speed is 3..10 and the remembered length at most 130 in every state that is reached: no call finds a bad state
+pub session-good : {alone : Bool} {s : Reader} {held : List ℕ} {h : History} → ReaderSession alone s held h → badState (stateOf s) ≡ false
 session-good se = agrees-good (session-agrees se)
 
--- what is sent is the whole image of the reply meant, with the received identifier; on a repeat, if nobody else wrote to the store
-module _ {alone : Bool} {s : Reader} {held : List ℕ} {h : History} (se : Session alone s held h) where
-  pub session-sends : {store′ out′ : List ℕ} (r : Answer) (event : Event) (content header antenna store out : List ℕ)
-      → Kept alone held store
-      → length header ≡ headerLength
-      → answering r store′ out′ ≡ answered s (named event) content header antenna store out
-      → number (r .refusal) ≡ 0
-      → (isRepeat h content (asking (named event)) ≡ true → alone ≡ true)
-      → sent (r .buffer) (r .length) store′ out′ ≡ toSend h content header antenna (asking (named event))
-  session-sends r event content header antenna store out kept whole says done own =
-      call-told alone s h (named event) content header antenna store out r (session-agrees se) kept whole says .sends done own
+module _ {alone : Bool} {s : Reader} {held : List ℕ} {h : History} (se : ReaderSession alone s held h) (c : Call alone h s held) (done : Done c)
+  where
+    -- what is sent is the whole image of the reply that is due, with the received identifier; on a repeat, if nobody else wrote to the store
+    pub session-sends : (isRepeat h (c .input) ≡ true → alone ≡ true) → bytesSent c ≡ toSend h (c .input)
+    session-sends = call-follows (session-agrees se) c .sends done
 
-  -- to a CHECK NACK 1
-  pub check-nacked : {store′ out′ : List ℕ} (r : Answer) (content header antenna store out : List ℕ)
-      → Kept alone held store
-      → length header ≡ headerLength
-      → answering r store′ out′ ≡ answered s CHECK content header antenna store out
-      → number (r .refusal) ≡ 0
-      → sent (r .buffer) (r .length) store′ out′ ≡ replyImage (identifierOf content) sign (NACK wrongCheck)
-  check-nacked r content header antenna store out kept whole says done =
-      session-sends r Check content header antenna store out kept whole says done (λ again. absurd (true≢false (sym again)))
+    -- a call that was not refused goes on with what is told next
+    pub session-on : ReaderSession alone (c .answer .reader) (c .left .store) (next h (c .input))
+    session-on =
+        subst (λ (n : ℕ). ReaderSession alone (c .answer .reader) (c .left .store) (nextBy h (c .input) n)) done (called se c)
 
-  -- to a FRAME that repeats nothing the reply to what it asks for, and NACK 2 or 3 where it is not accepted
-  pub session-replies : {store′ out′ : List ℕ} {k : Acceptance} (r : Answer) (content header antenna store out : List ℕ)
-      → Kept alone held store
-      → length header ≡ headerLength
-      → answering r store′ out′ ≡ answered s FRAME content header antenna store out
-      → number (r .refusal) ≡ 0
-      → repeats (h .last) (identifierOf content) (commandOf content) ≡ false
-      → acceptance (commandOf content) (dataOf content) ≡ k
-      → sent (r .buffer) (r .length) store′ out′
-      ≡ replyImage (identifierOf content) (commandOf content) (judgedReply h content header antenna k)
-  session-replies r content header antenna store out kept whole says done new asked =
-      session-sends r Frame content header antenna store out kept whole says done (λ again. absurd (true≢false (sym again ∙ new)))
-      ∙ rw (new, asked)
+    -- to a CHECK NACK 1
+    pub check-nacked : c .input .event ≡ CHECK → bytesSent c ≡ replyImage (identifierOf (c .input .content)) sign (NACK wrongCheck)
+    check-nacked is = rw is at session-sends (λ again. absurd (true≢false (sym again)))
 
-  pub frame-nacked : {store′ out′ : List ℕ} {fault : Fault} (r : Answer) (content header antenna store out : List ℕ)
-      → Kept alone held store
-      → length header ≡ headerLength
-      → answering r store′ out′ ≡ answered s FRAME content header antenna store out
-      → number (r .refusal) ≡ 0
-      → repeats (h .last) (identifierOf content) (commandOf content) ≡ false
-      → acceptance (commandOf content) (dataOf content) ≡ Refused fault
-      → sent (r .buffer) (r .length) store′ out′ ≡ replyImage (identifierOf content) sign (NACK (nackOf fault))
-  frame-nacked = session-replies
+    -- to a FRAME that repeats nothing the reply to what it asks for, and NACK 2 or 3 where it is not accepted
+    pub session-replies : {k : Acceptance} → c .input .event ≡ FRAME → repeatsLast h (c .input) ≡ false → asksFor h (c .input) ≡ k
+        → bytesSent c
+        ≡ replyImage (identifierOf (c .input .content)) (commandOf (c .input .content)) (judgedReply h (c .input) k)
+    session-replies is new asked = rw (is, new, asked) at session-sends (λ again. absurd (true≢false (sym again)))
 
-  -- a call that was not refused goes on with what is told next
-  pub session-on : {store′ out′ : List ℕ} (r : Answer) (event : Event) (content header antenna store out : List ℕ)
-      → Kept alone held store
-      → length header ≡ headerLength
-      → answering r store′ out′ ≡ answered s (named event) content header antenna store out
-      → number (r .refusal) ≡ 0
-      → Session alone (r .reader) store′ (next h content header antenna (asking (named event)))
-  session-on {store′} {out′} r event content header antenna store out kept whole says done =
-      subst (λ (n : ℕ). Session alone (r .reader) store′ (nextBy h content header antenna (asking (named event)) n)) done
-      (called se r event content header antenna store out store′ out′ kept whole says)
+    -- it did the steps, with good buffers
+    pub call-steps : answerSays (c .answer) (c .left) ≡ stepped (stateOf s) (c .input) (c .lent) (asking (c .input .event))
+        × Lent (c .input) (c .lent)
+    call-steps =
+        subst⁻¹ P (c .says)
+        (row-elim (stateOf s) (c .input) (c .lent) P (λ why bad none. absurd (eqb-false (number why) 0 bad none)) (λ well fine none. (refl, well)))
+        done
+      where
+        P : Answered → Type 0
+        P a = a .refusal ≡ 0 → a ≡ stepped (stateOf s) (c .input) (c .lent) (asking (c .input .event)) × Lent (c .input) (c .lent)
 
-  -- a frame that repeats nothing is judged by its code and data
-  pub session-judges : (identifier code : ℕ) («data» header antenna store out : List ℕ) → repeats (h .last) identifier code ≡ false
-      → length «data» ≤ mostData
-      → Lent antenna store out
-      → answered s FRAME (identifier ∷ code ∷ «data») header antenna store out
-      ≡ judged s header antenna store out identifier code «data» (acceptance code «data»)
-  session-judges identifier code «data» header antenna store out new short lent =
-      let a = session-agrees se in
-      let content = identifier ∷ code ∷ «data» in
-      does-steps s FRAME content header antenna store out (agrees-good a) lent (front-is identifier code «data» short)
-      ∙ framed-told s header antenna store out content (h .last) (a .memory)
-      ∙ rw new
+    module _ (asks : asking (c .input .event) ≡ Right) where
+      pub call-framed : answerSays (c .answer) (c .left)
+          ≡ cond (repeatsLast h (c .input)) (recalledAs (stateOf s) (c .lent) (h .last)) (judgedAs (stateOf s) (c .input) (c .lent))
+      call-framed =
+          call-steps .0 ∙ ap (stepped (stateOf s) (c .input) (c .lent)) asks
+          ∙ framed-told (stateOf s) (c .input) (c .lent) (h .last) (session-agrees se .memory)
 
-  -- a frame with the identifier and command of the last executed one changes no record and no byte of either buffer, and its bytes are
-  -- those that stand in front of the store at that moment
-  pub repeat-stored : {store′ out′ : List ℕ} (r : Answer) (e : Executed) («data» header antenna store out : List ℕ) → h .last ≡ some e
-      → length «data» ≤ mostData
-      → Lent antenna store out
-      → answering r store′ out′ ≡ answered s FRAME (e .identifier ∷ e .code ∷ «data») header antenna store out
-      → answering r store′ out′ ≡ sending s Store (length (imageOf e)) store out
-  repeat-stored r e «data» header antenna store out executed short lent says =
-      let a = session-agrees se in
-      let content = e .identifier ∷ e .code ∷ «data» in
-      says
-      ∙ does-steps s FRAME content header antenna store out (agrees-good a) lent (front-is (e .identifier) (e .code) «data» short)
-      ∙ framed-told s header antenna store out content (some e) (a .memory ∙ ap memoryOf executed)
-      ∙ rw (eq-eqb (e .identifier) (e .identifier) refl, eq-eqb (e .code) (e .code) refl)
+      -- a repeat changes no state and no byte of a buffer, and sends what the remembered bytes of the store hold at that moment
+      pub repeat-stored : repeatsLast h (c .input) ≡ true → Recalls c
+      repeat-stored same = of (h .last) refl same (call-framed ∙ rw same)
+        where
+          of : (last : Option Execution) → h .last ≡ last → repeats last (identifierOf (c .input .content)) (commandOf (c .input .content)) ≡ true
+              → answerSays (c .answer) (c .left) ≡ recalledAs (stateOf s) (c .lent) (h .last)
+              → Recalls c
+          of none is same says = absurd (true≢false (sym same))
+          of (some e) is same says =
+              let sends = says ∙ ap (recalledAs (stateOf s) (c .lent)) is in
+              let fits = subst Fits is (session-agrees se .fits) in
+              record {
+                state = ap (λ (a : Answered). a .state) sends;
+                buffers = ap (λ (a : Answered). a .left) sends;
+                sends = ap (λ (a : Answered). sent (a .buffer) (a .length) (a .left)) sends
+                    ∙ sent-store (length (imageOf e)) (c .lent) (omega (arith, image-room e fits, call-steps .1 .1))
+                    ∙ ap (λ (last : Option Execution). take (remembers last) (c .lent .store)) (sym is);
+              }
 
-  -- those bytes are all there
-  pub repeat-sends : (e : Executed) (antenna store out : List ℕ) → h .last ≡ some e → Lent antenna store out
-      → sent Store (length (imageOf e)) store out ≡ take (length (imageOf e)) store
-  repeat-sends e antenna store out executed lent =
-      let fits = subst Fits executed (session-agrees se .fits) in
-      sent-store (length (imageOf e)) store out (omega (arith, image-room e fits, lent .1))
+    -- a command that is executed: the reply stands in both buffers
+    module _ (does : isExecuted h (c .input) ≡ true) where
+      abbrev parts : (isFrame (asking (c .input .event)) ≡ true) × ((not (repeatsLast h (c .input)) && isAccepted (asksFor h (c .input))) ≡ true)
+      parts =
+          and-eq-true-iff (isFrame (asking (c .input .event))) (not (repeatsLast h (c .input)) && isAccepted (asksFor h (c .input))) .0 does
+
+      pub is-frame : asking (c .input .event) ≡ Right
+      is-frame = of (asking (c .input .event)) (parts .0)
+        where
+          of : (asked : Asking) → isFrame asked ≡ true → asked ≡ Right
+          of Nothing never = absurd (false≢true never)
+          of Wrong never = absurd (false≢true never)
+          of Right is = refl
+
+      pub is-new : repeatsLast h (c .input) ≡ false
+      is-new =
+          by-test (λ (t : Bool). not t ≡ true → t ≡ false) (repeatsLast h (c .input)) (λ _ never. absurd (false≢true never)) (λ _ _. refl)
+          (and-eq-true-iff (not (repeatsLast h (c .input))) (isAccepted (asksFor h (c .input))) .0 (parts .1) .0)
+
+      no-repeat : isRepeat h (c .input) ≡ false
+      no-repeat =
+          ap (λ (t : Bool). isFrame (asking (c .input .event)) && t) is-new ∙ and-false (isFrame (asking (c .input .event)))
+
+      pub is-accepted : (command : Command) × (asksFor h (c .input) ≡ Accepted command)
+      is-accepted =
+          of (asksFor h (c .input)) refl
+          (and-eq-true-iff (not (repeatsLast h (c .input))) (isAccepted (asksFor h (c .input))) .0 (parts .1) .1)
+        where
+          of : (k : Acceptance) → asksFor h (c .input) ≡ k → isAccepted k ≡ true → (command : Command) × (asksFor h (c .input) ≡ Accepted command)
+          of (Accepted command) is fine = (command, is)
+          of (Refused fault) is fine = absurd (false≢true fine)
+
+      pub call-executed : {command : Command} → asksFor h (c .input) ≡ Accepted command
+          → answerSays (c .answer) (c .left) ≡ executed (stateOf s) (c .input) (c .lent) command
+      call-executed asked = call-framed is-frame ∙ rw (is-new, asked)
+
+      -- and its reply is sent
+      pub executed-sends : {command : Command} → asksFor h (c .input) ≡ Accepted command
+          → bytesSent c ≡ bytesOf (c .input .content) (some (replyTo (h .value) command (c .input .header) (c .input .antenna)))
+      executed-sends asked =
+          let sends : bytesSent c ≡ toSend h (c .input) = session-sends (λ again. absurd (true≢false (sym again ∙ no-repeat))) in
+          rw (is-frame, is-new, asked) at sends

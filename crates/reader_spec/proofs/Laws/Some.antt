@@ -1,60 +1,93 @@
 -- Every call has a result that its statement allows, so a session can be continued by any call; and a call with good buffers is not refused.
 -- Assumes nothing.
 use mathlib.Core.Path.{_≡_, refl, sym, ap, _∙_}
-use mathlib.Core.Bool.{Bool, true}
+use mathlib.Core.Bool.{Bool, true, false}
 use mathlib.Core.List.{List}
+use mathlib.Core.Option.{none}
 use Prim.Native.Nat.{ℕ}
 use lib.ListN.{length}
 use Rattle.ground.specs.declared.refusal.Refusal.{Refusal}
 use Rattle.ground.specs.declared.refusal.Refusal.the-variants.{None}
 use Rattle.ground.specs.Refusals.{number}
-use Rattle.link_spec.specs.declared.event.Event.{Event}
-use Rattle.link_spec.specs.Events.{named}
-use Rattle.reader_spec.specs.declared.reader.Memory.the-variants as Memory
+use Rattle.request_spec.specs.Limits.{headerLength}
+use Rattle.reader_spec.specs.declared.reader.Buffer.{Buffer}
+use Rattle.reader_spec.specs.declared.reader.Buffer.the-variants.{Out, Store}
 use Rattle.reader_spec.specs.declared.reader.Reader.{Reader}
 use Rattle.reader_spec.specs.declared.reader.Powered.{Powered}
 use Rattle.reader_spec.specs.declared.reader.Answer.{Answer}
+use Rattle.reader_spec.specs.State.{stateWith, stateOf}
 use Rattle.reader_spec.specs.Asking.{asking}
-use Rattle.reader_spec.specs.Answering.{being, powering, poweredOn, Answered, answering, answerOf, Lent, fits, answered}
-use Rattle.reader_spec.specs.Sessions.{History, Session}
-use Rattle.reader_spec.proofs.Laws.Answering.{steps-fine, powers-on, does-steps, row-elim}
-use Rattle.reader_spec.proofs.Laws.Agreeing.{agrees-good}
-use Rattle.reader_spec.proofs.Laws.Sessions.{session-agrees}
+use Rattle.reader_spec.specs.Sending.{BufferName, OUT, STORE, bufferNamed, Buffers}
+use Rattle.reader_spec.specs.Answering.{powering, poweredOn, Input, Answered, answerSays, Lent, Unfit, answered}
+use Rattle.reader_spec.specs.Sessions.{History, StoreKept, Call, Done, ReaderSession}
+use Rattle.reader_spec.proofs.Laws.State.{readerWith, state-back}
+use Rattle.reader_spec.proofs.Laws.Answering.{steps-fine, powers-on, does-steps, none-fit, row-elim}
+use Rattle.reader_spec.proofs.Laws.Sessions.{session-good}
 
--- a result, and what it left
+-- the buffer with this name
+abbrev bufferWith : BufferName → Buffer
+bufferWith OUT = Out
+bufferWith STORE = Store
+
+buffer-back : (name : BufferName) → bufferNamed (bufferWith name) ≡ name
+buffer-back OUT = refl
+buffer-back STORE = refl
+
+-- an answer that says this
 pub record Result (a : Answered) : Type 0 where
   pub answer : Answer
-  pub store : List ℕ
-  pub out : List ℕ
-  pub says : answering answer store out ≡ a
+  pub says : answerSays answer (a .left) ≡ a
 
 result : (a : Answered) (why : Refusal) → number why ≡ a .refusal → Result a
 result a why is =
     record {
-      answer = answerOf why (a .reader) (a .buffer) (a .length);
-      store = a .store;
-      out = a .out;
-      says = λ i. record { refusal = is i; reader = a .reader; buffer = a .buffer; length = a .length; store = a .store; out = a .out };
+      answer = record { refusal = why; reader = readerWith (a .state); buffer = bufferWith (a .buffer); length = a .length };
+      says = λ i. record {
+        refusal = is i;
+        state = state-back (a .state) i;
+        buffer = buffer-back (a .buffer) i;
+        length = a .length;
+        left = a .left;
+      };
     }
 
-pub call-some : (s : Reader) (event : Event) (content header antenna store out : List ℕ)
-    → Result (answered s (named event) content header antenna store out)
-call-some s event content header antenna store out =
-    row-elim s (named event) content header antenna store out Result (λ why _. result _ why refl)
-    (λ lent _. result _ None (sym (steps-fine s (named event) content header antenna store out (asking (named event)))))
+pub answer-some : (s : Reader) (i : Input) (lent : Buffers) → Result (answered (stateOf s) i lent)
+answer-some s i lent =
+    row-elim (stateOf s) i lent Result (λ why _. result _ why refl)
+    (λ well _. result _ None (sym (steps-fine (stateOf s) i lent (asking (i .event)))))
 
--- with good buffers and a content that fits, no call of a session is refused
-pub call-fine : {alone : Bool} {s : Reader} {held : List ℕ} {h : History} → Session alone s held h
-    → (event : Event) (content header antenna store out : List ℕ)
-    → Lent antenna store out
-    → fits (asking (named event)) content ≡ true
-    → answered s (named event) content header antenna store out .refusal ≡ 0
-call-fine {s} se event content header antenna store out lent fine =
-    ap (λ (a : Answered). a .refusal) (does-steps s (named event) content header antenna store out (agrees-good (session-agrees se)) lent fine)
-    ∙ steps-fine s (named event) content header antenna store out (asking (named event))
+-- so every call can be made
+pub call-some : {alone : Bool} {h : History} {s : Reader} {held : List ℕ} (i : Input) (lent : Buffers) → StoreKept alone h held (lent .store)
+    → length (i .header) ≡ headerLength
+    → (c : Call alone h s held) × (c .input ≡ i) × (c .lent ≡ lent)
+call-some {s} i lent kept whole =
+    let r = answer-some s i lent in (
+      record {
+        input = i;
+        lent = lent;
+        answer = r .answer;
+        left = answered (stateOf s) i lent .left;
+        kept = kept;
+        whole = whole;
+        says = r .says;
+      },
+      refl,
+      refl,
+    )
 
--- and no power-on is
-pub power-some : {alone : Bool} {s : Reader} {held : List ℕ} {h : History} → Session alone s held h
-    → (r : Powered) × (powering r ≡ poweredOn s) × (number (r .refusal) ≡ 0)
+-- and with good buffers and a content that fits it is not refused
+pub call-fine : {alone : Bool} {h : History} {s : Reader} {held : List ℕ} → ReaderSession alone s held h → (c : Call alone h s held)
+    → Lent (c .input) (c .lent)
+    → (Unfit (c .input) → ⊥)
+    → Done c
+call-fine {s} se c well fit =
+    ap (λ (a : Answered). a .refusal) (c .says)
+    ∙ ap (λ (a : Answered). a .refusal) (does-steps (stateOf s) (c .input) (c .lent) (session-good se) well (none-fit (c .input) fit))
+    ∙ steps-fine (stateOf s) (c .input) (c .lent) (asking (c .input .event))
+
+-- no power-on is
+pub power-some : {alone : Bool} {s : Reader} {held : List ℕ} {h : History} → ReaderSession alone s held h
+    → (r : Powered) × (powering r ≡ poweredOn (stateOf s)) × (number (r .refusal) ≡ 0)
 power-some {s} se =
-    (record { refusal = None; reader = being (s .parameters) Memory.None }, sym (powers-on s (agrees-good (session-agrees se))), refl)
+    let left = stateWith (s .parameters) none in
+    (record { refusal = None; reader = readerWith left }, sym (powers-on (stateOf s) (session-good se)), refl)

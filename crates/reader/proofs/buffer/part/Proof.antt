@@ -1,4 +1,4 @@
--- `buffer::part` meets its contract.
+-- `buffer::part`: the test says whether the length lies within the bytes.
 -- Assumes nothing.
 use mathlib.Core.Path.{sym}
 use lib.Seq.{length-take-le}

@@ -1,4 +1,4 @@
--- `memory::find` meets its contract.
+-- `memory::find`: each test that led to a `return` is one of step 3's: identifier, then command.
 -- Assumes nothing.
 use borrow.Author.Tests.{eq-eqb, ne-eqb}
 use borrow.Author.Needs.{needs}

@@ -1,4 +1,4 @@
--- `memory::is_too_far` meets its contract.
+-- `memory::is_too_far`: only a memory that has a last command has a length to be too far.
 -- Assumes nothing.
 use borrow.Author.Needs.{needs}
 use Rattle.reader.proofs.memory.is_too_far.Statement.{statement}

@@ -1,4 +1,4 @@
--- `state::fresh_reader` meets its contract.
+-- `state::fresh_reader`: its parameters are those of delivery, and its memory says that there is none.
 -- Assumes nothing.
 use borrow.Author.Needs.{needs}
 use Rattle.reader.proofs.state.fresh_reader.Statement.{statement}

@@ -1,4 +1,4 @@
--- `state::is_bad` meets its contract.
+-- `state::is_bad`: speed and remembered length are the two tests of row 4.
 -- Assumes nothing.
 use mathlib.Core.Path.{sym, _∙_}
 use borrow.Author.Needs.{needs}

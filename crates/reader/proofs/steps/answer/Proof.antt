@@ -1,8 +1,8 @@
--- `answer::answer` meets its contract: its tests are the rows of the refusal table, in their order.
+-- `steps::answer`: its tests are the rows of the refusal table, in their order; what they let pass is admitted.
 -- Assumes nothing.
 use mathlib.Core.Path.{sym, _∙_}
 use borrow.Author.Needs.{needs}
-use Rattle.reader_spec.proofs.Laws.Answering.{refuses-state, refuses-store, refuses-out, refuses-antenna, heeds}
+use Rattle.reader_spec.proofs.Laws.Answering.{refuses-state, refuses-store, refuses-out, refuses-antenna, admits}
 use Rattle.reader.proofs.steps.answer.Statement.{statement}
 use Rattle.reader.proofs.steps.answer.Tie as tie
 
@@ -47,8 +47,8 @@ returns-4 c =
     let over = c .before .if4 .taken in
     rw (c .refused4 .ensures, refuses-antenna)
 
-heed-requires : tie.Need-heed-requires
-heed-requires c κs = search needs
+admit-requires : tie.Need-admit-requires
+admit-requires c κs = search needs
 
 same-length : tie.Need-same-length
 same-length c = search needs
@@ -63,7 +63,7 @@ returns-5 c =
     let kept = d .before .before .if2 .left in
     let long = d .before .if3 .left in
     let few = d .if4 .left in
-    rw heeds (c .before .before .before .before .heed .ensures)
+    rw admits (c .before .before .before .before .admit .ensures)
 
 pub answer-spec : {M : Type 1} → statement M
 answer-spec =
@@ -78,7 +78,7 @@ answer-spec =
     returns-3
     refused-requires-4
     returns-4
-    heed-requires
+    admit-requires
     same-length
     same-length-2
     returns-5)

@@ -1,4 +1,4 @@
--- `answer::execute` meets its contract.
+-- `steps::execute`: the reply that was written to out is copied to the store, and identifier, command and length are remembered.
 -- Assumes nothing.
 use mathlib.Core.Path.{sym}
 use native.Mathlib.Omega.{arith}
@@ -47,7 +47,7 @@ returns c =
     let e = d .before .before .before .before .before .before .before in
     let a = e .args in
     let put = c .before .before .before .before .put in
-    execute-answers (a .reader) (a .header) (a .antenna .now) (a .store .now) (a .out .now) (a .identifier) (a .code) (a .«data» .now)
+    execute-answers (a .reader) (a .identifier) (a .code) (a .«data» .now) (a .header) (a .antenna .now) (a .store .now) (a .out .now)
     (a .command) (c .sending .ensures) (c .before .after-command .ensures)
     (put-onto _ (a .store .now) (put .ensures) (simp length-take (omega (arith, d .write-reply .ensures .1, e .pre .1))))
     (d .write-reply .ensures)

@@ -1,4 +1,4 @@
--- `answer::fits` meets its contract.
+-- `steps::fits`: each arm is the case of `fits` that the asking names.
 -- Assumes nothing.
 use borrow.Author.Needs.{needs}
 use Rattle.reader.proofs.steps.fits.Statement.{statement}

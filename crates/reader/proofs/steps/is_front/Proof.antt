@@ -1,4 +1,4 @@
--- `answer::is_front` meets its contract.
+-- `steps::is_front`: the two tests are the bounds of a content without check.
 -- Assumes nothing.
 use borrow.Author.Tests.{lt-leb, le-leb}
 use Rattle.reader.proofs.steps.is_front.Statement.{statement}

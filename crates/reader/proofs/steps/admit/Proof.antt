@@ -1,4 +1,4 @@
--- `answer::heed` meets its contract: by what the event asks.
+-- `steps::admit`: what the event asks says which of the steps answers, and whether its content is one to refuse.
 -- Assumes nothing.
 use mathlib.Core.Path.{_≡_, sym, ap, _∙_}
 use mathlib.Core.Bool.{Bool, true}
@@ -9,10 +9,10 @@ use borrow.Author.Needs.{needs}
 use Rattle.request_spec.specs.Replies.{NACK, sign, wrongCheck, identifierOf}
 use Rattle.reader_spec.specs.declared.reader.Asking.{Asking}
 use Rattle.reader_spec.specs.Replies.{replyContent}
-use Rattle.reader_spec.specs.Answering.{fits}
+use Rattle.reader_spec.specs.Answering.{fits, framed}
 use Rattle.reader.proofs.Laws.Answering.{front-least, put-answers}
-use Rattle.reader.proofs.steps.heed.Statement.{statement}
-use Rattle.reader.proofs.steps.heed.Tie as tie
+use Rattle.reader.proofs.steps.admit.Statement.{statement}
+use Rattle.reader.proofs.steps.admit.Tie as tie
 
 -- what was found to fit fits what is asked
 found : {asked k : Asking} {t : Bool} (content : List ℕ) → asked ≡ k → t ≡ fits asked content → t ≡ true → fits k content ≡ true
@@ -83,6 +83,7 @@ same-length-3 : tie.Need-same-length-3
 same-length-3 c = search needs
 
 returns-3 : tie.Need-returns-3
+unfolding framed
 returns-3 c =
     let told = c .before .before .before .before .before .before .before .enum-told3 .given .1 in
     let d = c .before .before .before .before .before .before .before .before .before in
@@ -95,8 +96,8 @@ returns-4 c =
     let d = c .before .before in
     rw (c .refused .ensures, sym (d .before .asked-by .ensures), sym (d .fits2 .ensures) ∙ c .before .if1 .left)
 
-pub heed-spec : {M : Type 1} → statement M
-heed-spec =
+pub admit-spec : {M : Type 1} → statement M
+admit-spec =
     tie.close
     (tie.spec
     asked-by-requires
