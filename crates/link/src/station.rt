@@ -6,7 +6,7 @@ use link_spec::MASTER;
 use link_spec::Station;
 ghost use mathlib.Core.Path.{_≡_};
 ghost use Rattle.link_spec.specs.Address.{isStation, takes as takesOf};
-ghost use Rattle.link_spec.specs.Station.{checkOn, hasAddress as hasAddressOf};
+ghost use Rattle.link_spec.specs.Station.{checkOn, hasAddress};
 
 // Whether a station may have this address.
 pub(crate) fn is_station(address: u8) -> bool
@@ -43,7 +43,7 @@ pub(crate) fn check_on(station: Station) -> Check
 
 // Whether a station may have its address; on the point line it has none.
 pub(crate) fn has_address(station: Station) -> bool
-    ensures { λ r. ⌜ r ≡ hasAddressOf station ⌝ }
+    ensures { λ r. ⌜ r ≡ hasAddress station ⌝ }
 {
     match station {
         Station::Point => true,

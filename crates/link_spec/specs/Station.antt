@@ -20,7 +20,7 @@ checkOn (Addressed own) = Sum
 abbrev pub checked : Station → List ℕ → List ℕ
 checked station front = withCheck (checkOn station) front
 
--- a station of the addressed line has an address that a station may have
+-- on the addressed line, whether a station may have this address
 abbrev pub hasAddress : Station → Bool
 hasAddress Point = true
 hasAddress (Addressed own) = isStation own

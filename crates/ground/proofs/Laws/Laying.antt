@@ -63,8 +63,8 @@ laid-whole l x whole = laid-front l x ∙ rw (drop-of-length-le l whole) (append
 pub take-front : (l x : List ℕ) → take (length x) (laid l 0 x) ≡ x
 take-front l x = rw (zero-add (length x)) at (take-laid l 0 x zero-le)
 
-pub laid-behind : (l x y : List ℕ) → laid (laid l 0 x) (length x) y ≡ laid l 0 (x ++ y)
-laid-behind l x y = rw (zero-add (length x)) at (laid-more l 0 x y zero-le)
+pub laid-after : (l x y : List ℕ) → laid (laid l 0 x) (length x) y ≡ laid l 0 (x ++ y)
+laid-after l x y = rw (zero-add (length x)) at (laid-more l 0 x y zero-le)
 
 -- a byte put into its place is laid there
 pub set-laid : (l : List ℕ) (at b : ℕ) → at < length l → set l at b ≡ laid l at (b ∷ [])
@@ -76,13 +76,13 @@ pub laid-next : (l : List ℕ) (at b : ℕ) (x : List ℕ) → at < length l →
 laid-next l at b x h = rw (set-laid l at b h) (laid-more l at (b ∷ []) x (omega arith))
 
 -- a byte put after what was laid
-pub set-behind : (l : List ℕ) (at : ℕ) (x : List ℕ) (b : ℕ) → at + length x < length l
+pub set-after : (l : List ℕ) (at : ℕ) (x : List ℕ) (b : ℕ) → at + length x < length l
     → set (laid l at x) (at + length x) b ≡ laid l at (x ++ (b ∷ []))
-set-behind l at x b h =
+set-after l at x b h =
     set-laid (laid l at x) (at + length x) b (rw (length-laid l at x (omega arith)) h) ∙ laid-more l at x (b ∷ []) (omega arith)
 
 pub set-two : (l : List ℕ) (at a b : ℕ) → at + 2 ≤ length l → set (set l at a) (at + 1) b ≡ laid l at (a ∷ b ∷ [])
-set-two l at a b h = rw (set-laid l at a (omega arith)) (set-behind l at (a ∷ []) b (omega arith))
+set-two l at a b h = rw (set-laid l at a (omega arith)) (set-after l at (a ∷ []) b (omega arith))
 
 -- what was laid into a part that was lent, from the place `at` to the end, stands there in the whole
 pub laid-part : (l : List ℕ) (at : ℕ) (x : List ℕ) → at + length x ≤ length l

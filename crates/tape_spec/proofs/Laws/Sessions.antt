@@ -76,9 +76,9 @@ module _ (bytes : List ℕ) where
       ∙ subst⁻¹ (Continues t before) says (call-continues t before chunk rest out continues)
 
 -- the theorem: whatever the chunks and the buffers were, the text is the listing of the whole tape
-pub listing-told : {bytes text : List ℕ} → Listing bytes text → text ≡ listing bytes
+pub listing-is : {bytes text : List ℕ} → Listing bytes text → text ≡ listing bytes
 unfolding listing
-listing-told {bytes} (begun header fresh session) =
+listing-is {bytes} (begun header fresh session) =
     let p = parts 0 bytes in
     ap₂ _++_ (written-row header)
     (session-remains bytes session
@@ -91,7 +91,7 @@ pub listing-shows : {bytes text : List ℕ} → Listing bytes text
     → let p = parts 0 bytes in let all = entries 0 freshReceivers (p .records) in
     (text ≡ headerRow ++ (entryRows all ++ lastRow (p .ending) (length (p .records)))) × Shows (p .records) all
 unfolding listing
-listing-shows {bytes} l = (listing-told l, frames-shown (parts 0 bytes .records))
+listing-shows {bytes} l = (listing-is l, frames-shown (parts 0 bytes .records))
 
 -- ---- a session of every tape
 

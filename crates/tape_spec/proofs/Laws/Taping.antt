@@ -120,13 +120,13 @@ listed-within t chunk out few =
 -- ---- it takes something
 
 -- after some bytes with their text
-abbrev pub behindWent : ℕ → List ℕ → Went → Went
-behindWent taken text w = record { tape = w .tape; taken = taken + w .taken; text = text ++ w .text }
+abbrev pub wentAfter : ℕ → List ℕ → Went → Went
+wentAfter taken text w = record { tape = w .tape; taken = taken + w .taken; text = text ++ w .text }
 
 -- one byte, where there is room and something further is read
 pub going-step : (room : ℕ) (t : Tape) (b : ℕ) (bs : List ℕ) → isOver (t .next) ≡ false → leastRoom ≤ room
     → let s = advanced t b in
-    going room t (b ∷ bs) ≡ behindWent 1 (s .text) (going (room - length (s .text)) (s .tape) bs)
+    going room t (b ∷ bs) ≡ wentAfter 1 (s .text) (going (room - length (s .text)) (s .tape) bs)
 unfolding going
 going-step room t b bs more h = rw (more, le-ltb room leastRoom h)
 
