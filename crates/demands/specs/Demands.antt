@@ -35,18 +35,18 @@ use Rattle.reader_spec.specs.declared.reader.Asking.the-variants.{Right}
 use Rattle.reader_spec.specs.declared.reader.Reader.{Reader}
 use Rattle.reader_spec.specs.State.{State}
 use Rattle.reader_spec.specs.Asking.{asking}
-use Rattle.reader_spec.specs.Replies.{replyTo, replyImage}
+use Rattle.reader_spec.specs.Replies.{replyImage}
 use Rattle.reader_spec.specs.Sending.{OUT, Buffers}
 use Rattle.reader_spec.specs.Answering.{poweredOn, Input, answered}
-use Rattle.reader_spec.specs.Sessions.{History, toSend, repeatsLast, isRepeat, isExecuted, asksFor, next, Call, Done, bytesSent, ReaderSession, Idle, Unwritten}
-use Rattle.reader_spec.specs.Promises.{Recalls, Repeated}
+use Rattle.reader_spec.specs.Sessions.{History, isExecuted, asksFor, next, Call, Done, bytesSent, ReaderSession, Idle, Unwritten}
+use Rattle.reader_spec.specs.Promises.{Repeated}
 use Rattle.tape_spec.specs.declared.tape.Tape.{Tape}
 use Rattle.tape_spec.specs.Rows.{headerRow, lastRow}
 use Rattle.tape_spec.specs.Whole.{parts, Entry, entryRows}
 use Rattle.tape_spec.specs.Frames.{Shows}
 use Rattle.tape_spec.specs.Taping.{listed}
 use Rattle.tape_spec.specs.Sessions.{Listing}
-use Rattle.demands.specs.Exchanging.{Asks, RequestExecuted, RequestNacked, HeardAndRead}
+use Rattle.demands.specs.Exchanging.{WellAnswered}
 
 -- a call that writes to a lent buffer: refused, it counts 0 and leaves the buffer as it was
 abbrev pub Writer : (List ℕ → After) → Type 0
@@ -90,30 +90,19 @@ pub record Demand2 : Type 0 where
       → List·Memᴰ (toldAt (length before + r .count) FRAME (address ∷ identifier ∷ command ∷ «data»)) all
   pub check : (identifier command : ℕ) («data» : List ℕ) → residue (pointContent identifier command «data») ≡ goodResidue
   pub stuffed : (content : List ℕ) → unstuffing (stuffing content) ≡ some content
-  -- a typed request that was written is executed, and one that the writer refuses with 5 gets NACK 2 or 3
-  pub executed : {alone : Bool} {s : Reader} {held : List ℕ} {h : History} → ReaderSession alone s held h
-      → (c : Call alone h s held) (identifier code : ℕ) («data» room wrote : List ℕ) (w : Counted) → Asks c identifier code «data»
-      → after w wrote ≡ requestWritten identifier code «data» room
-      → (tally w .refusal ≡ 0 → RequestExecuted c) × (tally w .refusal ≡ 5 → length «data» ≤ mostData → RequestNacked c)
-  -- each call that is not refused sends the whole image of the reply that is due; on a repeat, if nobody else wrote to the store
-  pub sends : {alone : Bool} {s : Reader} {held : List ℕ} {h : History} → ReaderSession alone s held h
-      → (c : Call alone h s held) → Done c → (isRepeat h (c .input) ≡ true → alone ≡ true) → bytesSent c ≡ toSend h (c .input)
-  -- the reply to a request that is executed is heard wherever it stands, and read by the master as what it is
-  pub read : {alone : Bool} {s : Reader} {held : List ℕ} {h : History} → ReaderSession alone s held h
-      → (c : Call alone h s held) (identifier code : ℕ) («data» before rest : List ℕ) {m : Receiver} {all : List Told} → Asks c identifier code «data»
-      → (x : RequestExecuted c)
-      → IsFresh Point m
-      → Hearing (before ++ (bytesSent c ++ rest)) m 0 all
-      → HeardAndRead identifier code «data» before all (bytesSent c) (replyTo (h .value) (x .command) (c .input .header) (c .input .antenna))
+  -- a typed request that was written is heard wherever it stands
+  pub requestHeard : (w : Counted) (identifier code : ℕ) («data» out out′ before rest : List ℕ) {s : Receiver} {all : List Told}
+      → after w out′ ≡ requestWritten identifier code «data» out → tally w .refusal ≡ 0 → IsFresh Point s
+      → Hearing (before ++ (take (w .count) out′ ++ rest)) s 0 all
+      → List·Memᴰ (toldAt (length before + w .count) FRAME (identifier ∷ code ∷ «data»)) all
+  -- each call of a session answers as the paper's steps say
+  pub answers : {alone : Bool} {s : Reader} {held : List ℕ} {h : History} → ReaderSession alone s held h → (c : Call alone h s held) → WellAnswered c
   -- what was written to a parameter is what a later read sends, until another write of it
   pub values : {alone : Bool} {s t : Reader} {held kept : List ℕ} {h k : History} {p : Parameter} → ReaderSession alone s held h
       → (w : Call alone h s held) → Done w → isExecuted h (w .input) ≡ true → asksFor h (w .input) ≡ Accepted (Write p)
       → Unwritten alone p (w .answer .reader) (w .left .store) (next h (w .input)) t kept k
       → (r : Call alone k t kept) → Done r → isExecuted k (r .input) ≡ true → asksFor k (r .input) ≡ Accepted (Read p)
       → bytesSent r ≡ replyImage (identifierOf (r .input .content)) (commandOf (r .input .content)) (DATA (drop 1 (dataOf (w .input .content))))
-  -- a frame that repeats the last executed command changes nothing, and sends what the store holds of its reply
-  pub recalls : {alone : Bool} {s : Reader} {held : List ℕ} {h : History} → ReaderSession alone s held h
-      → (c : Call alone h s held) → Done c → asking (c .input .event) ≡ Right → repeatsLast h (c .input) ≡ true → Recalls c
   -- after a command was executed, and any calls that execute nothing, a frame with its identifier and command gets the stored reply
   pub repeats : {s t : Reader} {held kept : List ℕ} {h : History} → ReaderSession false s held h
       → (first : Call false h s held) → Done first → isExecuted h (first .input) ≡ true

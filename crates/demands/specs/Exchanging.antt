@@ -1,24 +1,34 @@
 -- What is promised of both ends of the point line: a request that is written, heard, executed, answered, heard again and read.
 -- 01, The point reader and 'Master's side'. Assumes nothing.
 use mathlib.Core.Path.{_≡_}
-use mathlib.Core.Bool.{Bool, false}
+use mathlib.Core.Bool.{Bool, true, false}
 use mathlib.Core.List.{List, _∷_, _++_, List·Memᴰ}
 use mathlib.Core.Option.{some}
-use Prim.Native.Nat.{ℕ, _+_}
+use Prim.Native.Nat.{ℕ, _+_, _≤_}
 use lib.ListN.{length}
+use Rattle.ground.specs.declared.refusal.Counted.{Counted}
+use Rattle.ground.specs.Refusals.{tally}
+use Rattle.wire_spec.specs.Writing.{after}
+use Rattle.link_spec.specs.declared.station.Station.the-variants.{Point}
+use Rattle.link_spec.specs.declared.receiver.Receiver.{Receiver}
+use Rattle.link_spec.specs.Limits.{mostData}
 use Rattle.link_spec.specs.Events.{FRAME}
-use Rattle.link_spec.specs.Hearing.{Told, toldAt}
+use Rattle.link_spec.specs.Hearing.{Told, toldAt, IsFresh, Hearing}
 use Rattle.request_spec.specs.declared.command.Command.{Command}
 use Rattle.request_spec.specs.declared.command.Acceptance.the-variants.{Accepted, Refused}
 use Rattle.request_spec.specs.declared.command.Fault.{Fault}
 use Rattle.request_spec.specs.Acceptance.{nackOf}
 use Rattle.request_spec.specs.Replies.{Reply, NACK, sign, identifierOf, frontOf}
+use Rattle.request_spec.specs.Requesting.{requestWritten}
 use Rattle.request_spec.specs.Reading.{hasRead, replyRead}
+use Rattle.reader_spec.specs.declared.reader.Asking.the-variants.{Right}
 use Rattle.reader_spec.specs.declared.reader.Reader.{Reader}
 use Rattle.reader_spec.specs.State.{stateOf}
+use Rattle.reader_spec.specs.Asking.{asking}
 use Rattle.reader_spec.specs.Replies.{IsAnswer, replyImage, replyTo}
-use Rattle.reader_spec.specs.Answering.{Input, Lent}
-use Rattle.reader_spec.specs.Sessions.{History, repeats, bytesOf, asksFor, judgedNext, Call, Done, bytesSent, ReaderSession}
+use Rattle.reader_spec.specs.Answering.{Lent}
+use Rattle.reader_spec.specs.Sessions.{History, repeats, bytesOf, repeatsLast, asksFor, judgedNext, toSend, isRepeat, Call, Done, bytesSent, ReaderSession}
+use Rattle.reader_spec.specs.Promises.{Recalls}
 
 module _ {alone : Bool} {h : History} {s : Reader} {held : List ℕ} (c : Call alone h s held) where
   -- a call is given this request, as a FRAME that repeats nothing, with good buffers
@@ -52,3 +62,20 @@ module _ {alone : Bool} {h : History} {s : Reader} {held : List ℕ} (c : Call a
 pub record HeardAndRead (identifier code : ℕ) («data» before : List ℕ) (all : List Told) (bytes : List ℕ) (reply : Reply) : Type 0 where
   pub heard : List·Memᴰ (toldAt (length before + length bytes) FRAME (frontOf identifier code reply)) all
   pub reads : replyRead identifier code «data» (frontOf identifier code reply) ≡ hasRead reply
+
+-- What is promised of one call of a session.
+pub record WellAnswered {alone : Bool} {h : History} {s : Reader} {held : List ℕ} (c : Call alone h s held) : Type 0 where
+  -- unless it is refused it sends the whole image of the reply that is due; on a repeat, if nobody else wrote to the store
+  pub sends : Done c → (isRepeat h (c .input) ≡ true → alone ≡ true) → bytesSent c ≡ toSend h (c .input)
+  -- a frame that repeats the last executed command changes nothing, and sends what the store holds of its reply
+  pub recalls : Done c → asking (c .input .event) ≡ Right → repeatsLast h (c .input) ≡ true → Recalls c
+  -- a typed request that was written is executed; one that the writer refuses with 5, if a frame can carry it, gets NACK 2 or 3
+  pub executes : (identifier code : ℕ) («data» room wrote : List ℕ) (w : Counted) → Asks c identifier code «data»
+      → after w wrote ≡ requestWritten identifier code «data» room
+      → (tally w .refusal ≡ 0 → RequestExecuted c) × (tally w .refusal ≡ 5 → length «data» ≤ mostData → RequestNacked c)
+  -- the reply to a request that is executed is heard wherever it stands, and read by the master as what it is
+  pub read : (identifier code : ℕ) («data» before rest : List ℕ) {m : Receiver} {all : List Told} → Asks c identifier code «data»
+      → (x : RequestExecuted c)
+      → IsFresh Point m
+      → Hearing (before ++ (bytesSent c ++ rest)) m 0 all
+      → HeardAndRead identifier code «data» before all (bytesSent c) (replyTo (h .value) (x .command) (c .input .header) (c .input .antenna))

@@ -1,4 +1,4 @@
-// The values of a reader's parameters behind a command.
+// The values of a reader's parameters after a command.
 use ground::put;
 use reader_spec::Parameters;
 use request::CELL_LENGTH;
@@ -46,7 +46,7 @@ fn with_value(parameters: Parameters, parameter: Parameter, value: &[u8]) -> Par
     }
 }
 
-// The parameters behind a command that came with this data.
+// The parameters after a command that came with this data.
 pub(crate) fn after_command(parameters: Parameters, command: Command, data: &[u8]) -> Parameters
     requires { ⌜ FitsCommand command (now «data») ⌝ }
     ensures { λ r. ⌜ r ≡ doneTo parameters command (now («data» .entry)) ⌝ }

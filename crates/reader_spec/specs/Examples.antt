@@ -9,7 +9,7 @@ use Rattle.link_spec.specs.Events.{Name, FRAME, CHECK, SHORT}
 use Rattle.request_spec.specs.Replies.{Reply, ACK, NACK, DATA}
 use Rattle.reader_spec.specs.Limits.{room, leastFront, mostFront}
 use Rattle.reader_spec.specs.Parameters.{freshParameters}
-use Rattle.reader_spec.specs.State.{Last, lastOf, State, stateWith, freshState}
+use Rattle.reader_spec.specs.State.{Last, lastOf, stateWith}
 use Rattle.reader_spec.specs.Sending.{BufferName, OUT, STORE, buffersOf, sent}
 use Rattle.reader_spec.specs.Answering.{inputOf, poweredOn, Answered, answered}
 use Rattle.reader_spec.specs.Sessions.{begun, replyDue}

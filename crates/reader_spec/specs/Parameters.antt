@@ -20,7 +20,7 @@ valueOf ps Speed = ps .speed ∷ []
 valueOf ps Settings = ps .settings
 valueOf ps Cell = ps .cell
 
--- the record with another value of one parameter
+-- the parameters with another value of one of them
 abbrev pub withValue : Parameters → Parameter → List ℕ → Parameters
 withValue ps Speed value = record { speed = getD value 0 0; settings = ps .settings; cell = ps .cell }
 withValue ps Settings value = record { speed = ps .speed; settings = value; cell = ps .cell }

@@ -1,4 +1,4 @@
-// The point reader, as types alone: its record, and what it answers to requests and to one that is repeated. What is so is in specs/; the
+// The point reader, as types alone: its state, and what it answers to requests and to one that is repeated. What is so is in specs/; the
 // crate `reader` does it.
 mod reader;
 

@@ -12,7 +12,7 @@ use Rattle.link_spec.proofs.Laws.Fresh.{fresh-point, fresh-station}
 use Rattle.link_spec.proofs.Laws.Hearing.{hearing-some}
 use Rattle.link_spec.proofs.Laws.Demand.{hearing-lists, cuts-free}
 use Rattle.link_spec.proofs.Laws.Listed.{point-listed, addressed-listed}
-use Rattle.request_spec.proofs.Laws.Requesting.{request-keeps}
+use Rattle.request_spec.proofs.Laws.Requesting.{request-keeps, request-heard}
 use Rattle.reader_spec.proofs.Laws.Answering.{answered-keeps, powered-keeps}
 use Rattle.reader_spec.proofs.Laws.Sessions.{session-sends, repeat-stored}
 use Rattle.reader_spec.proofs.Laws.Repeats.{executed-repeats}
@@ -21,14 +21,14 @@ use Rattle.tape_spec.specs.Whole.{parts, entries, freshReceivers}
 use Rattle.tape_spec.proofs.Laws.Taping.{listed-keeps}
 use Rattle.tape_spec.proofs.Laws.Sessions.{listing-shows, listing-some}
 use Rattle.demands.specs.Demands.{Demand1, Demand2, Demand3}
-use Rattle.demands.proofs.Laws.Refusing.{put-ends, length-counts, frame-counts, point-counts, addressed-counts, request-counts, received-silent, reply-meaningless, listed-counts}
+use Rattle.demands.proofs.Laws.Refusing.{put-stops, length-counts, frame-counts, point-counts, addressed-counts, request-counts, received-silent, reply-meaningless, listed-counts}
 use Rattle.demands.proofs.Laws.Exchange.{exchange}
 use Rattle.demands.proofs.Laws.Requests.{request-executed, request-nacked}
 
 pub demand-1 : Demand1
 demand-1 =
     record {
-      puts = λ bytes out at. (put-keeps bytes out at, put-ends bytes out at);
+      puts = λ bytes out at. (put-keeps bytes out at, put-stops bytes out at);
       length = length-counts;
       frame = λ check head «data» out. (frame-keeps check head «data» out, frame-counts check head «data» out);
       point = λ identifier command «data» out. (point-keeps identifier command «data» out, point-counts identifier command «data» out);
@@ -50,14 +50,17 @@ demand-2 =
       addressedHeard = addressed-listed;
       check = point-residue;
       stuffed = unstuffing-stuffing;
-      executed = λ se c identifier code «data» room wrote w asks says. (
-        request-executed se c identifier code «data» asks w room wrote says,
-        request-nacked se c identifier code «data» asks w room wrote says,
-      );
-      sends = λ se c done. session-sends se c done;
-      read = exchange;
+      requestHeard = request-heard;
+      answers = λ se c. record {
+        sends = session-sends se c;
+        recalls = repeat-stored se c;
+        executes = λ identifier code «data» room wrote w asks says. (
+          request-executed se c identifier code «data» asks w room wrote says,
+          request-nacked se c identifier code «data» asks w room wrote says,
+        );
+        read = exchange se c;
+      };
       values = written-read;
-      recalls = λ se c done. repeat-stored se c done;
       repeats = λ se first done does idle again. executed-repeats se first done does idle again;
     }
 

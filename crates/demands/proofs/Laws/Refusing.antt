@@ -1,14 +1,14 @@
 -- A refused call answers count 0, no event, an empty part: the statements' refusals one by one.
 -- Assumes nothing.
 use mathlib.Core.Path.{_≡_, refl}
-use mathlib.Core.Bool.{Bool, true, false, cond}
+use mathlib.Core.Bool.{Bool, false, cond}
 use mathlib.Core.List.{List, _++_}
 use mathlib.Core.Option.{none}
 use Prim.Native.Nat.{ℕ, _-_}
 use lib.Dec.{ltb, eqb}
 use lib.ListN.{length, getD}
 use Rattle.ground.specs.declared.refusal.Refusal.{Refusal}
-use Rattle.ground.specs.Refusals.{Tally, AnswersOnly, number}
+use Rattle.ground.specs.Refusals.{Tally, AnswersOnly}
 use Rattle.ground.specs.Laying.{Ended, put}
 use Rattle.ground.proofs.Laws.Choice.{cond-elim, by-test}
 use Rattle.checks.specs.declared.kind.Check.{Check}
@@ -28,7 +28,7 @@ use Rattle.request_spec.specs.declared.command.Command.{Command}
 use Rattle.request_spec.specs.declared.command.Acceptance.{Acceptance}
 use Rattle.request_spec.specs.declared.command.Acceptance.the-variants.{Accepted, Refused}
 use Rattle.request_spec.specs.Acceptance.{acceptance, isAccepted}
-use Rattle.request_spec.specs.Replies.{Reply, dataOf, ackByte}
+use Rattle.request_spec.specs.Replies.{dataOf, ackByte}
 use Rattle.request_spec.specs.Requesting.{requestWritten}
 use Rattle.request_spec.specs.Reading.{Understood, notRead, isWrite, isDue, dataRead, isNack, reasonRead, signRead, wrongId, isSign, wrongCommand, readAs, readBy, replyRead}
 use Rattle.tape_spec.specs.declared.tape.Tape.{Tape}
@@ -78,9 +78,9 @@ request-counts identifier code «data» out =
     cond-elim Counts (isAccepted (acceptance code «data»)) (λ asked. image-counts (pointContent identifier code «data») out)
     (λ bad refused. refl)
 
-pub put-ends : (bytes out : List ℕ) (at : ℕ) → AnswersOnly (put bytes out at .refusal) at (put bytes out at .end)
+pub put-stops : (bytes out : List ℕ) (at : ℕ) → AnswersOnly (put bytes out at .refusal) at (put bytes out at .end)
 unfolding put
-put-ends bytes out at =
+put-stops bytes out at =
     cond-elim (λ (e : Ended). AnswersOnly (e .refusal) at (e .end)) (ltb (length out - at) (length bytes)) (λ short refused. refl)
     (λ fits refused. absurd (refused refl))
 

@@ -1,16 +1,15 @@
 -- What the typed writer writes is executed, and what it refuses with 5 is answered NACK 2 or 3.
 -- Assumes nothing.
-use mathlib.Core.Path.{_≡_, refl, sym, ap, subst, subst⁻¹, _∙_}
+use mathlib.Core.Path.{_≡_, refl, sym, ap, _∙_}
 use mathlib.Core.Bool.{Bool, true, false, true≢false}
-use mathlib.Core.List.{List, _∷_, _++_, List·Memᴰ}
-use mathlib.Core.Option.{some}
-use Prim.Native.Nat.{ℕ, _+_, _≤_}
-use lib.ListN.{length, take}
+use mathlib.Core.List.{List}
+use Prim.Native.Nat.{ℕ, _≤_}
+use lib.ListN.{length}
 use Rattle.ground.specs.declared.refusal.Counted.{Counted}
 use Rattle.ground.specs.Refusals.{tally}
 use Rattle.wire_spec.specs.Writing.{After, after}
 use Rattle.link_spec.specs.Limits.{mostData}
-use Rattle.link_spec.specs.Events.{Name, FRAME}
+use Rattle.link_spec.specs.Events.{FRAME}
 use Rattle.request_spec.specs.declared.command.Command.{Command}
 use Rattle.request_spec.specs.declared.command.Acceptance.{Acceptance}
 use Rattle.request_spec.specs.declared.command.Acceptance.the-variants.{Accepted, Refused}

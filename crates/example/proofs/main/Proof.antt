@@ -1,5 +1,4 @@
--- `main` meets its contract: by the statements of writer and receiver, which antt computes at these arguments, the frame has six bytes
--- and the content that is heard two.
+-- `main`: both counts that it expects follow from the statements of writer and receiver, computed on the paper's first frame.
 -- Assumes nothing.
 use mathlib.Core.Path.{_≡_, sym, ap, ap₂, _∙_}
 use mathlib.Core.List.{[]}

@@ -1,4 +1,4 @@
--- `print` meets its contract: what is put into the line ends within it, refused or not.
+-- `print`: each place in the row is where the last call ended, and the row is long enough for 8 bytes.
 -- Assumes nothing.
 use mathlib.Core.Path.{sym}
 use Prim.Native.Nat.{zero-le}

@@ -32,7 +32,7 @@ use Rattle.reader_spec.specs.State.{Last, lastOf, State, stateWith, fres
 use Rattle.reader_spec.specs.Replies.{replyImage, replyTo}
 use Rattle.reader_spec.specs.Sending.{OUT, STORE, Buffers, sent}
 use Rattle.reader_spec.specs.Answering.{Input, Answered, Lent, sending, nacked, executed, judged, recalled, framed, stepped}
-use Rattle.reader_spec.specs.Sessions.{Execution, imageOf, History, begun, forgetting, repeats, isFrame, repeatsLast, asksFor, judgedNext, nextAs, judgedReply, bytesOf, dueAs, remembers, StoreKept}
+use Rattle.reader_spec.specs.Sessions.{Execution, imageOf, History, begun, forgetting, repeats, isFrame, repeatsLast, asksFor, judgedNext, nextAs, judgedReply, bytesOf, dueAs, StoreKept}
 use Rattle.reader_spec.proofs.Laws.Replies.{point-room}
 use Rattle.reader_spec.proofs.Laws.Answering.{framed-by}
 use Rattle.reader_spec.proofs.Laws.Sending.{sent-none, sent-out, sent-store}

@@ -10,9 +10,6 @@ use lib.ListN.{length, take}
 use lib.Seq.{take-append-seam}
 use borrow.Author.Tests.{eq-eqb}
 use Rattle.ground.specs.Laying.{onto}
-use Rattle.request_spec.specs.declared.command.Command.{Command}
-use Rattle.request_spec.specs.declared.command.Acceptance.{Acceptance}
-use Rattle.request_spec.specs.declared.command.Acceptance.the-variants.{Accepted}
 use Rattle.request_spec.specs.declared.parameter.Parameter.{Parameter}
 use Rattle.request_spec.specs.Replies.{identifierOf, commandOf}
 use Rattle.reader_spec.specs.declared.reader.Asking.the-variants.{Right}
@@ -21,7 +18,7 @@ use Rattle.reader_spec.specs.State.{stateOf}
 use Rattle.reader_spec.specs.Asking.{asking}
 use Rattle.reader_spec.specs.Replies.{replyImage, replyTo}
 use Rattle.reader_spec.specs.Answering.{Answered, replyBytes}
-use Rattle.reader_spec.specs.Sessions.{Execution, imageOf, History, repeatsLast, asksFor, next, isExecuted, remembers, Call, Done, bytesSent, ReaderSession, Idle}
+use Rattle.reader_spec.specs.Sessions.{Execution, imageOf, History, repeatsLast, next, isExecuted, remembers, Call, Done, ReaderSession, Idle}
 use Rattle.reader_spec.specs.Promises.{Repeated}
 use Rattle.reader_spec.proofs.Laws.Sessions.{session-agrees, session-on, is-frame, is-new, is-accepted, call-executed, executed-sends, repeat-stored, loose-call}
 use Rattle.reader_spec.proofs.Laws.Idle.{idle-keeps}

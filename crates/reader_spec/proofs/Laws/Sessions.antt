@@ -29,7 +29,7 @@ use Rattle.reader_spec.specs.Promises.{Recalls}
 use Rattle.reader_spec.proofs.Laws.State.{readerWith, state-back}
 use Rattle.reader_spec.proofs.Laws.Answering.{powers-on, row-elim}
 use Rattle.reader_spec.proofs.Laws.Sending.{sent-store}
-use Rattle.reader_spec.proofs.Laws.Agreeing.{memoryOf, Fits, image-room, recalledAs, judgedAs, framed-told, Agrees, agrees-fresh, agrees-powered, agrees-good, agrees-lent, tells-step}
+use Rattle.reader_spec.proofs.Laws.Agreeing.{Fits, image-room, recalledAs, judgedAs, framed-told, Agrees, agrees-fresh, agrees-powered, agrees-good, agrees-lent, tells-step}
 
 -- ---- every call of a session
 

@@ -1,10 +1,9 @@
 -- A reader is known by its state, and the bad states are those of row 4 of the refusal table.
 -- Assumes nothing.
-use mathlib.Core.Path.{_≡_, refl, sym, ap, _∙_}
+use mathlib.Core.Path.{_≡_, refl, sym, _∙_}
 use mathlib.Core.Bool.{Bool, true, false, not, _&&_, and-false, or-true, true≢false, false≢true}
 use mathlib.Core.Option.{Option, none, some}
 use mathlib.Mathlib.Logic.Function.Defs.{LeftInverse·injective}
-use Prim.Native.Nat.{ℕ}
 use lib.Dec.{leb}
 use borrow.Author.Tests.{ltb-true, lt-ltb, leb-false, lt-leb}
 use Rattle.ground.proofs.Laws.Choice.{by-test, or-elim}

@@ -1,4 +1,4 @@
--- `buffer::to_send` meets its contract: the part is taken from the buffer that is meant.
+-- `buffer::to_send`: the part is taken from the buffer that is meant.
 -- Assumes nothing.
 use borrow.Author.Needs.{needs}
 use Rattle.reader_spec.specs.Sending.{sent}

@@ -1,4 +1,4 @@
--- `reply::write` meets its contract: the frame fits.
+-- `reply::write`: data within the limit and a buffer of the least room leave the frame writer nothing to refuse.
 -- Assumes nothing.
 use borrow.Author.Needs.{needs}
 use Rattle.reader.proofs.Laws.Replies.{reply-put}

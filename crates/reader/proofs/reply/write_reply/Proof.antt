@@ -1,4 +1,4 @@
--- `reply::write_reply` meets its contract: the table of replies.
+-- `reply::write_reply`: each arm writes the frame that the table of replies has for its command, and all of them fit.
 -- Assumes nothing.
 use mathlib.Core.Path.{sym, _∙_}
 use borrow.Author.Needs.{needs}

@@ -1,4 +1,4 @@
--- `reply::write_value` meets its contract.
+-- `reply::write_value`: each arm hands the frame writer the value that `valueOf` has for its parameter.
 -- Assumes nothing.
 use native.Mathlib.Omega.{arith}
 use lib.ListN.{length-map}

@@ -1,4 +1,4 @@
--- `answer::answer_frame` meets its contract: steps 3 to 6.
+-- `steps::answer_frame`: the memory says whether it is step 3, and the acceptance of code and data whether it is 4, 5 or 6.
 -- Assumes nothing.
 use mathlib.Core.Path.{sym, _∙_}
 use native.Mathlib.Omega.{arith}

@@ -1,4 +1,4 @@
--- `values::behind` meets its contract.
+-- `values::after_command`: only a write changes a value, and its value is what follows the parameter's code.
 -- Assumes nothing.
 use mathlib.Core.Path.{_≡_, ap, subst, subst⁻¹, _∙_}
 use mathlib.Core.List.{List}

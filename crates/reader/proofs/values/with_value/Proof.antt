@@ -1,4 +1,4 @@
--- `values::with_value` meets its contract.
+-- `values::with_value`: the value has the parameter's length, so what is put over the zeros of an array is the value.
 -- Assumes nothing.
 use mathlib.Core.Path.{_≡_, _∙_, sym}
 use mathlib.Core.Bool.{true}
