@@ -20,7 +20,7 @@ abbrev pub checkLength : Check → ℕ
 checkLength Fcs = 2
 checkLength Sum = 1
 
--- a front with its check behind it
+-- a front with its check after it
 unfoldable pub withCheck : Check → List ℕ → List ℕ
 withCheck check front = front ++ checkOf check front
 

@@ -33,7 +33,7 @@ pub fn is_right(check: Check, content: &[u8]) -> bool
     stands_behind(check, content, content.len() - length)
 }
 
-// Whether the bytes of `content` behind the first `front` are the check of those.
+// Whether the bytes of `content` after the first `front` are the check of those.
 fn stands_behind(check: Check, content: &[u8], front: usize) -> bool
     requires { ⌜ front + checkLength check ≡ length (now content) ⌝ }
     ensures { λ r. ⌜ r ≡ isRight check (now (content .entry)) ⌝ }

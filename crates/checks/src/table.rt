@@ -1,4 +1,4 @@
-// The eight shift steps of every byte, worked out beforehand. Only `fcs` reads it.
+// The eight shift steps of every byte, worked out beforehand. Only `register` reads it.
 pub(crate) const TABLE: [u16; 256] = [
     0x0000,
     0x1189,

@@ -10,7 +10,7 @@ use Rattle.ground.specs.declared.refusal.Refusal.the-variants.{NoRoom}
 use Rattle.ground.specs.declared.laying.Placed.{Placed}
 use Rattle.ground.specs.Refusals.{number}
 
--- the buffer with `bytes` from the place `at` on; what stands before and behind them stays
+-- the buffer with `bytes` from the place `at` on; what stands before and after them stays
 unfoldable pub laid : List ℕ → ℕ → List ℕ → List ℕ
 laid buffer at bytes = take at buffer ++ (bytes ++ drop (at + length bytes) buffer)
 

@@ -1,5 +1,5 @@
 -- What a reader of this library must believe: the refusals with their numbers, beside document 01, 'Refusal numbers', what stands in a
--- buffer behind a call, and what it is that each row of a table holds. A byte is a number; no definition asks that it be below 256, since
+-- buffer after a call, and the claim that each row of a table holds. A byte is a number; no definition asks that it be below 256, since
 -- the contracts hand over bytes.
 pub mod Refusals
 pub mod Laying

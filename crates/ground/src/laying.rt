@@ -11,7 +11,7 @@ pub struct Placed {
     pub end: usize,
 }
 
-// Puts all of `bytes` into `out` from the place `at` on; what stands before and behind them stays. Refuses an `out` that ends before them
+// Puts all of `bytes` into `out` from the place `at` on; what stands before and after them stays. Refuses an `out` that ends before them
 // (NoRoom).
 pub fn put(bytes: &[u8], out: &mut [u8], at: usize) -> Placed
     ensures { λ r. ⌜ ended r (now (out .exit)) ≡ putOf (now (bytes .entry)) (now (out .entry)) at ⌝ }

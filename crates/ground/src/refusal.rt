@@ -47,7 +47,7 @@ impl Counted {
         Counted { refusal, count: 0 }
     }
 
-    // So many bytes, and no refusal.
+    // This many bytes, and no refusal.
     pub fn of(count: usize) -> Counted
         ensures { λ r. ⌜ tally r ≡ countedOf count ⌝ }
     {

@@ -63,7 +63,7 @@ fn plain(count: usize, byte: u8) -> Turn
     kept(count, byte)
 }
 
-// Behind an FF, at another byte than FD.
+// After an FF, at another byte than FD.
 fn partner(count: usize, byte: u8) -> Turn
     ensures { λ r. ⌜ r ≡ partnerOf count byte ⌝ }
 {

@@ -1,4 +1,4 @@
-// The lines' checks, and the addresses that a station has and takes.
+// The check of a station's frames, and the addresses that a station has and takes.
 use checks::Check;
 use link_spec::BROADCAST;
 use link_spec::LAST_ADDRESS;
@@ -6,7 +6,7 @@ use link_spec::MASTER;
 use link_spec::Station;
 ghost use mathlib.Core.Path.{_≡_};
 ghost use Rattle.link_spec.specs.Address.{isStation, takes as takesOf};
-ghost use Rattle.link_spec.specs.Station.{checkOn, hasAddress as hasStationOf};
+ghost use Rattle.link_spec.specs.Station.{checkOn, hasAddress};
 
 // Whether a station may have this address.
 pub(crate) fn is_station(address: u8) -> bool
@@ -31,7 +31,7 @@ pub(crate) fn takes(own: u8, address: u8) -> bool
     address == BROADCAST
 }
 
-// The check of the line's frames.
+// The check of the frames that a station hears.
 pub(crate) fn check_on(station: Station) -> Check
     ensures { λ r. ⌜ r ≡ checkOn station ⌝ }
 {
@@ -41,9 +41,9 @@ pub(crate) fn check_on(station: Station) -> Check
     }
 }
 
-// Whether the line has a station where it wants one.
+// Whether a station may have its address; on the point line it has none.
 pub(crate) fn has_address(station: Station) -> bool
-    ensures { λ r. ⌜ r ≡ hasStationOf station ⌝ }
+    ensures { λ r. ⌜ r ≡ hasAddress station ⌝ }
 {
     match station {
         Station::Point => true,

@@ -23,11 +23,11 @@ pub data Example : Type 0 where
   pointImage : (identifier command : ℕ) («data» printed : List ℕ) → Example
   addressedImage : (address identifier command : ℕ) («data» printed : List ℕ) → Example
   stuffs : (content printed : List ℕ) → Example
-  -- what a writer answers that is lent so much room
+  -- what a writer answers that is lent this much room
   pointWrites : (identifier command : ℕ) («data» : List ℕ) (room refusal count : ℕ) → Example
   addressedWrites : (address identifier command : ℕ) («data» : List ℕ) (room refusal count : ℕ) → Example
   rightCheck : (check : Check) (content : List ℕ) → Example
-  -- a stop byte behind this content tells this
+  -- a stop byte after this content tells this
   stops : (check : Check) (content : List ℕ) (event : Name) → Example
   -- to a fresh receiver the stream tells this first
   hears : (station : Station) (stream : List ℕ) (place : ℕ) (event : Name) (content : List ℕ) → Example
@@ -78,7 +78,7 @@ examples =
     -- P7: SHORT, though its check is right
     ∷ hears Point (0xFD ∷ 0x00 ∷ 0x00 ∷ 0xFE ∷ []) 4 SHORT []
     ∷ rightCheck Fcs (0x00 ∷ 0x00 ∷ [])
-    -- 4 content bytes are enough for a frame, 3 are not though their check is right, and a wrong check is told
+    -- 4 content bytes are enough for a frame, 3 are not though their check is right, and a wrong check is CHECK
     ∷ stops Sum (0x00 ∷ 0x01 ∷ 0x10 ∷ 0x11 ∷ []) FRAME
     ∷ stops Sum (0x00 ∷ 0x01 ∷ 0x01 ∷ []) SHORT
     ∷ stops Sum (0x00 ∷ 0x01 ∷ 0x10 ∷ 0x12 ∷ []) CHECK
@@ -88,7 +88,7 @@ examples =
     ∷ hears master (0xFD ∷ 0x05 ∷ []) 2 ADDR []
     -- P10: one FRAME
     ∷ hears Point (0xFD ∷ 0xFD ∷ 0x00 ∷ 0x00 ∷ 0x47 ∷ 0x0F ∷ 0xFE ∷ []) 7 FRAME (0x00 ∷ 0x00 ∷ [])
-    -- a frame behind another, and one behind what is no frame
+    -- a frame after another, and one after what is no frame
     ∷ hearsNext Point (0xFD ∷ 0x00 ∷ 0x00 ∷ 0x47 ∷ 0x0F ∷ 0xFE ∷ 0xFD ∷ 0x00 ∷ 0x00 ∷ 0x47 ∷ 0x0F ∷ 0xFE ∷ []) 12 FRAME (0x00 ∷ 0x00 ∷ [])
     ∷ hearsNext master (0xFD ∷ 0x05 ∷ 0xFD ∷ 0x00 ∷ 0x01 ∷ 0x10 ∷ 0x11 ∷ 0xFE ∷ []) 8 FRAME (0x00 ∷ 0x01 ∷ 0x10 ∷ [])
     -- P11: CHECK

@@ -26,18 +26,18 @@ toldAt place event content = record { place = place; event = event; content = co
 unfoldable pub note : ℕ → Name → List ℕ → List Told
 note place event content = cond (happened event) (toldAt place event content ∷ []) []
 
--- what one call tells that begins behind so many bytes of the stream
+-- what a call tells that begins after this many bytes of the stream
 unfoldable pub tells : ℕ → Said → List Told
 tells before said = note (before + said .taken) (said .event) (take (said .length) (said .content))
 
--- a receiver of this line, as the call that makes it answers unless it refuses
+-- a receiver for this station, as the call that makes it answers unless it refuses
 pub data IsFresh : Station → Receiver → Type 0 where
   point : {r : Receiver} → r ≡ freshReceiver Point → IsFresh Point r
   addressed : (r : Fresh) {own : ℕ} → made r ≡ freshMade own → made r .refusal ≡ 0 → IsFresh (Addressed own) (r .receiver)
 
--- A hearing of what is left of a stream behind so many bytes, and what its calls tell: either nothing is left, or there is one call
--- more, on any piece, empty too, that continues there, and the hearing goes on with the receiver and behind the bytes that the call
--- answered.
+-- A hearing of what is left of a stream after this many bytes, and what its calls tell: either nothing is left, or there is one call
+-- more, on any piece, empty too, that continues there, and the hearing goes on with the receiver that the call answered, after the bytes
+-- that it took.
 pub data Hearing (stream : List ℕ) : Receiver → ℕ → List Told → Type 0 where
   over : {s : Receiver} {before : ℕ} → length stream ≤ before → Hearing stream s before []
   call : {s : Receiver} {before : ℕ} {more : List Told} (piece rest : List ℕ) (r : Heard)

@@ -13,7 +13,7 @@ use Rattle.link_spec.specs.Station.{checked, Taken}
 use Rattle.link_spec.specs.Events.{FRAME}
 use Rattle.link_spec.specs.Hearing.{Told, toldAt}
 
--- The complete wire image of a content stands in the stream and ends at this place. The content is this front with its check behind it;
+-- The complete wire image of a content stands in the stream and ends at this place. The content is this front with its check after it;
 -- it has 4 to 64 bytes, and on the addressed line its address is one that this station takes.
 pub record Stands (station : Station) (stream : List ℕ) (place : ℕ) (front : List ℕ) : Type 0 where
   pub before : List ℕ
@@ -24,7 +24,7 @@ pub record Stands (station : Station) (stream : List ℕ) (place : ℕ) (front :
   pub most : length (checked station front) ≤ mostContent
   pub address : Taken station (checked station front)
 
--- places strictly rise, from behind a place on
+-- places strictly rise, and are after this one
 abbrev pub PlacesRise : ℕ → List Told → Type 0
 PlacesRise before [] = Unit {0}
 PlacesRise before (t ∷ ts) = (before < t .place) × PlacesRise (t .place) ts

@@ -59,7 +59,7 @@ soFar s = take (s .count) (s .content)
 abbrev pub turnAt : Receiver → ℕ → Turn
 turnAt s b = turn (s .station) (s .phase) (s .count) b
 
--- the receiver behind a byte; after each event it is outside a frame
+-- the receiver after a byte; after each event it is outside a frame
 unfoldable pub moved : Receiver → Turn → Receiver
 moved s Rest = s
 moved s Begin = receiverOf (s .station) Inside 0 (s .content)
@@ -77,7 +77,7 @@ hasEvent (Keep b) = false
 hasEvent Stop = true
 hasEvent (Tell why) = true
 
--- what a turn tells behind this content so far: the event, and how many bytes of the content it carries
+-- what a turn tells after this content so far: the event, and how many bytes of the content it carries
 unfoldable pub outcome : Check → List ℕ → Turn → Verdict
 outcome check content Rest = silent
 outcome check content Begin = silent

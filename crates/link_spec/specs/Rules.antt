@@ -1,6 +1,6 @@
 -- The receiver's rules as a table: which turn a byte is, and when. `Laws.Turning` proves that `turn` answers by it, and that it leaves no
--- other answer; `Laws.Events` proves the same of `verdict`, which event a stop byte tells. A record that no call answers, such as one that
--- is pending with no content byte on the addressed line, goes by the same rows.
+-- other answer; `Laws.Events` proves the same of `verdict`, which event a stop byte tells. A receiver's state that no call answers, such
+-- as pending with no content byte on the addressed line, goes by the same rows.
 -- 01, How the receiver moves; the numbers are those of its rules. Assumes nothing.
 use Prim.Native.Nat.{ℕ, zero, suc, _-_, _≤_, _<_}
 use mathlib.Core.Path.{_≡_}
@@ -24,7 +24,7 @@ use Rattle.link_spec.specs.Limits.{leastContent}
 use Rattle.link_spec.specs.Address.{takes}
 use Rattle.link_spec.specs.Events.{telling}
 
--- behind so many content bytes a byte is the raw address, and whether this station takes it
+-- after this many content bytes a byte is the raw address, and whether this station takes it
 pub data Address : Station → ℕ → ℕ → Bool → Type 0 where
   first : {own b : ℕ} {taken : Bool}
       → (b ≡ start → ⊥)
@@ -32,7 +32,7 @@ pub data Address : Station → ℕ → ℕ → Bool → Type 0 where
       → takes own b ≡ taken
       → Address (Addressed own) zero b taken
 
--- behind so many content bytes a byte is not the address
+-- after this many content bytes a byte is not the address
 pub data Later : Station → ℕ → Type 0 where
   onPoint : {count : ℕ} → Later Point count
   afterFirst : {own count : ℕ} → Later (Addressed own) (suc count)
@@ -55,7 +55,7 @@ pub data ByRule (station : Station) (count b : ℕ) : Phase → Turn → Type 0 
   longPlain : Later station count → special b ≡ false → mostContent ≤ count → ByRule station count b Inside (Tell Long)
   longPair : b ≤ 0x02 → mostContent ≤ count → ByRule station count b Pending (Tell Long)
 
--- 1, which event: behind fewer than 4 content bytes SHORT, otherwise behind a wrong check CHECK, otherwise FRAME; the last two carry what
+-- 1, which event: after fewer than 4 content bytes SHORT, otherwise after a wrong check CHECK, otherwise FRAME; the last two carry what
 -- stands before the check
 pub data ByStop (check : kind.Check) (content : List ℕ) : Verdict → Type 0 where
   short : length content < leastContent → ByStop check content (telling Short 0)

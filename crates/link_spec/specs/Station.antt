@@ -1,4 +1,4 @@
--- The two lines, as a receiver hears them.
+-- What a station's frames have: which check, and on the addressed line an address that it takes.
 -- 01, The two lines; Layout of a frame, the table and 'Addresses'. Assumes nothing.
 use Prim.Native.Nat.{ℕ}
 use mathlib.Core.Path.{_≡_}
@@ -16,17 +16,17 @@ abbrev pub checkOn : Station → Check
 checkOn Point = Fcs
 checkOn (Addressed own) = Sum
 
--- what stands before the check, with the line's check behind it: a content
+-- what stands before the check, with the line's check after it: a content
 abbrev pub checked : Station → List ℕ → List ℕ
 checked station front = withCheck (checkOn station) front
 
--- on the addressed line a receiver is one of a station
+-- on the addressed line, whether a station may have this address
 abbrev pub hasAddress : Station → Bool
 hasAddress Point = true
 hasAddress (Addressed own) = isStation own
 
--- on the addressed line a content begins with an address, and this station takes it; the point line, and what has no byte yet, has no
--- address
+-- on the addressed line a content begins with an address, and this station takes it; on the point line there is none, nor in a content
+-- with no byte yet
 abbrev pub Taken : Station → List ℕ → Type 0
 Taken Point content = Unit {0}
 Taken (Addressed own) [] = Unit {0}

@@ -36,7 +36,7 @@ contentByte (Addressed own) count b = cond (eqb count 0) (cond (takes own b) (ke
 unfoldable pub inside : Station → ℕ → ℕ → Turn
 inside station count b = cond (eqb b stop) Stop (contentByte station count b)
 
--- outside a frame everything but FD is ignored; behind an FF a byte is its partner
+-- outside a frame everything but FD is ignored; after an FF a byte is its partner
 unfoldable pub within : Station → Phase → ℕ → ℕ → Turn
 within station Outside count b = Rest
 within station Inside count b = inside station count b

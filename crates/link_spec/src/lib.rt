@@ -1,4 +1,4 @@
-// What stations write and hear, as types alone: a station, what one byte makes a receiver do, the receiver's record, and what it tells. What is
+// What stations write and hear, as types alone: a station, what one byte makes a receiver do, the receiver's state, and what it tells. What is
 // so is in specs/; the crate `link` does it.
 mod event;
 mod receiver;

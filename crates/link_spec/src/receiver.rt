@@ -1,4 +1,4 @@
-// The receiver's record, and what its calls answer.
+// The receiver's state, and what its calls answer.
 use crate::event::Event;
 use crate::station::Station;
 use ground::Refusal;
@@ -22,7 +22,7 @@ pub enum Turn {
     Tell(Event),
 }
 
-// A receiver between two calls: its line, where it is, and the first `count` bytes of `content` as the content so far.
+// A receiver between two calls: its station, where it is, and the first `count` bytes of `content` as the content so far.
 pub struct Receiver {
     pub station: Station,
     pub phase: Phase,

@@ -54,7 +54,7 @@ fn read_as(identifier: u8, code: u8, command: Command, reply: &[u8]) -> Reading
     read_data(command, &reply[2..])
 }
 
-// The data of a reply: what stands behind its identifier and command.
+// The data of a reply: what stands after its identifier and command.
 pub fn data_of(content: &[u8]) -> &[u8]
     ensures { λ r. ⌜ now r ≡ dataOf (now (content .entry)) ⌝ }
 {
@@ -118,7 +118,7 @@ fn read_data(command: Command, data: &[u8]) -> Reading
     }
 }
 
-// Whether a command may be answered with so many bytes.
+// Whether a command may be answered with this many bytes.
 fn is_due(command: Command, length: usize) -> bool
     ensures { λ r. ⌜ r ≡ isDue command length ⌝ }
 {

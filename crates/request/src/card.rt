@@ -1,4 +1,4 @@
-// How many bytes a card's code may have.
+// How many bytes an antenna answers for a card.
 use request_spec::Card;
 use request_spec::MOST_ANTENNA;
 ghost use mathlib.Core.Path.{_≡_};
@@ -6,7 +6,7 @@ ghost use Rattle.request_spec.specs.Cards.{isRead, isCode};
 
 const MOTOROLA_LENGTH: usize = 5;
 
-// Whether a card's code may have so many bytes.
+// Whether an antenna's answer for this card may have this many bytes.
 pub fn is_code(card: Card, length: usize) -> bool
     ensures { λ r. ⌜ r ≡ isCode card length ⌝ }
 {
@@ -17,7 +17,7 @@ pub fn is_code(card: Card, length: usize) -> bool
     }
 }
 
-// Whether an antenna that read a card answers so many bytes.
+// Whether an antenna that read a card may answer this many bytes.
 fn is_read(length: usize) -> bool
     ensures { λ r. ⌜ r ≡ isRead length ⌝ }
 {

@@ -7,7 +7,7 @@ use request_spec::Coded;
 use request_spec::Command;
 use request_spec::Fault;
 ghost use mathlib.Core.Path.{_≡_};
-ghost use Rattle.request_spec.specs.Acceptance.{bareAccepted as bareOf, writeAccepted as writingOf, readAccepted as readingOf, acceptance, nackOf, judgement};
+ghost use Rattle.request_spec.specs.Acceptance.{bareAccepted, writeAccepted, readAccepted, acceptance, nackOf, judgement};
 
 // What this code asks for with this data.
 pub fn accept(code: u8, data: &[u8]) -> Acceptance
@@ -36,7 +36,7 @@ pub fn nack_of(fault: Fault) -> u8
 
 // A command without data.
 fn accept_bare(command: Command, data: &[u8]) -> Acceptance
-    ensures { λ r. ⌜ r ≡ bareOf command (now («data» .entry)) ⌝ }
+    ensures { λ r. ⌜ r ≡ bareAccepted command (now («data» .entry)) ⌝ }
 {
     if data.len() == 0 {
         Acceptance::Accepted(command)
@@ -47,7 +47,7 @@ fn accept_bare(command: Command, data: &[u8]) -> Acceptance
 
 // A parameter's code, then its value.
 fn accept_write(data: &[u8]) -> Acceptance
-    ensures { λ r. ⌜ r ≡ writingOf (now («data» .entry)) ⌝ }
+    ensures { λ r. ⌜ r ≡ writeAccepted (now («data» .entry)) ⌝ }
 {
     if data.len() == 0 {
         return Acceptance::Refused(Fault::BadData);
@@ -65,7 +65,7 @@ fn accept_write(data: &[u8]) -> Acceptance
 
 // A parameter's code alone.
 fn accept_read(data: &[u8]) -> Acceptance
-    ensures { λ r. ⌜ r ≡ readingOf (now («data» .entry)) ⌝ }
+    ensures { λ r. ⌜ r ≡ readAccepted (now («data» .entry)) ⌝ }
 {
     if data.len() != 1 {
         return Acceptance::Refused(Fault::BadData);

@@ -1,4 +1,4 @@
-// The codes of the reader's parameters, and the values that each takes.
+// The codes of the reader's parameters, and the values that each may have.
 use request_spec::CELL_LENGTH;
 use request_spec::Coded;
 use request_spec::Parameter;

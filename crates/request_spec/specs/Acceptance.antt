@@ -87,7 +87,7 @@ abbrev pub isAccepted : Acceptance → Bool
 isAccepted (Accepted command) = true
 isAccepted (Refused fault) = false
 
--- data that a command was accepted with: of a write's, what stands behind the parameter's code is a value that the parameter takes
+-- data that a command was accepted with: of a write's, what stands after the parameter's code is a value of that parameter
 abbrev pub FitsCommand : Command → List ℕ → Type 0
 FitsCommand Header «data» = Unit {0}
 FitsCommand (Write p) «data» = (1 ≤ length «data») × (isValueOf p (drop 1 «data») ≡ true)

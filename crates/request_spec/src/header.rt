@@ -3,7 +3,7 @@ pub const NAME_LENGTH: usize = 20;
 
 const NUMBER_LENGTH: usize = 4;
 
-// Where each number stands: one behind the other, behind the name.
+// Where each number stands: one after the other, after the name.
 pub const KIND_AT: usize = NAME_LENGTH;
 
 pub const VERSION_AT: usize = KIND_AT + NUMBER_LENGTH;

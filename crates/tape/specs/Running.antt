@@ -25,18 +25,18 @@ unfoldable pub laced : ℕ → List ℕ → List ℕ
 laced kind [] = []
 laced kind (b ∷ bs) = kind ∷ b ∷ laced kind bs
 
--- a body and whole records of one kind behind it
+-- a body and whole records of one kind after it
 abbrev pub linked : ℕ → List ℕ → List ℕ
 linked kind [] = []
 linked kind (b ∷ bs) = b ∷ laced kind bs
 
--- the bodies at a chunk's front, so many at most
+-- the bodies at a chunk's front, `limit` at most
 pub record Gathered (kind limit : ℕ) (chunk bodies : List ℕ) : Type 0 where
   pub some : 1 ≤ length bodies
   pub within : length bodies ≤ limit
   pub front : take (2 * length bodies - 1) chunk ≡ linked kind bodies
 
--- the receiver behind bodies, how many were heard, and the text that they brought
+-- the receiver after bodies, how many were heard, and the text of their events
 pub record Run : Type 0 where
   pub receiver : Receiver
   pub count : ℕ
@@ -46,7 +46,7 @@ pub record Run : Type 0 where
 abbrev pub resting : Receiver → Run
 resting s = record { receiver = s; count = 0; text = [] }
 
--- one by one, from behind so many records on, while there is room for the longest line
+-- one by one, after n records, while there is room for the longest row
 unfoldable pub running : ℕ → Line → ℕ → Receiver → List ℕ → Run
 running room line n s [] = resting s
 running room line n s (b ∷ bs) =
@@ -69,7 +69,7 @@ left r out = record { receiver = r .receiver; count = r .count; end = r .end; ou
 abbrev pub runLeft : Run → List ℕ → ℕ → Left
 runLeft w out at = record { receiver = w .receiver; count = w .count; end = at + length (w .text); out = laid out at (w .text) }
 
--- the bodies at a chunk's front were heard, from behind so many records on
+-- the bodies at a chunk's front were heard, after this many records
 pub record RunHeard (line : Line) (s : Receiver) (records : ℕ) (chunk out : List ℕ) (at : ℕ) (after : Left) : Type 0 where
   pub bodies : List ℕ
   pub gathered : Gathered (kindOf line) (mostRecords - records) chunk bodies

@@ -1,4 +1,4 @@
--- Words of a line, and how a call hands them over. It serves contracts of private functions. Assumes nothing.
+-- Words of a row, and how a call hands them over. It serves contracts of private functions. Assumes nothing.
 use Prim.Native.Nat.{ℕ, _≤_}
 use mathlib.Core.Path.{_≡_}
 use mathlib.Core.List.{List}

@@ -22,8 +22,8 @@ ghost use Rattle.tape_spec.specs.Taping.{tapeOf, badTape, listedOut, notListed,
 // Records that are heard together at most.
 const MOST_RUN: usize = 128;
 
-// Takes the chunk, and writes the lines of its events to the front of `out`. It stops where fewer than LEAST_ROOM bytes of `out` are
-// left, and where nothing further is read. Refuses a receiver that the link refuses and a body behind the last permitted record
+// Takes the chunk, and writes the rows of its events to the front of `out`. It stops where fewer than LEAST_ROOM bytes of `out` are
+// left, and where nothing further is read. Refuses a receiver that the link refuses and a body after the last permitted record
 // (BadState), and an `out` under LEAST_ROOM (NoRoom), and then leaves tape and buffer as they were.
 pub fn list(tape: Tape, chunk: &[u8], out: &mut [u8]) -> Listed
     ensures { λ r. ⌜ listedOut r (now (out .exit)) ≡ listed tape (now (chunk .entry)) (now (out .entry)) ⌝ }

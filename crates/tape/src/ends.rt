@@ -12,17 +12,17 @@ ghost use Rattle.tape_spec.specs.Rows.{headerRow, word as wordOf, lastRow};
 ghost use Rattle.tape_spec.specs.Taping.{ending as endingOf, lastRowOf};
 ghost use Rattle.tape.specs.Words.{Spells};
 
-// Places for the longest last line: a word of 4 letters, a blank, 10 digits and the line's end.
+// Places for the longest last row: a word of 4 letters, a blank, 10 digits and the row's end.
 const MOST_LAST: usize = 16;
 
-// Writes the header line to the front of `out`. Refuses an `out` that is shorter (NoRoom).
+// Writes the header row to the front of `out`. Refuses an `out` that is shorter (NoRoom).
 pub fn write_header(out: &mut [u8]) -> Placed
     ensures { λ r. ⌜ ended r (now (out .exit)) ≡ putOf headerRow (now (out .entry)) 0 ⌝ }
 {
     put(b"record line event content\n", out, 0)
 }
 
-// Writes the last line of a tape that ends here to the front of `out`. Refuses an `out` that is shorter (NoRoom).
+// Writes the last row of a tape that ends here to the front of `out`. Refuses an `out` that is shorter (NoRoom).
 pub fn write_last(tape: Tape, out: &mut [u8]) -> Placed
     ensures { λ r. ⌜ ended r (now (out .exit)) ≡ putOf (lastRowOf tape) (now (out .entry)) 0 ⌝ }
 {
@@ -43,7 +43,7 @@ fn ending(next: Next) -> Ending
     }
 }
 
-// Writes the last row, of a tape that ends like this after so many records, to the front of `out`.
+// Writes the last row, of a tape that ends like this after this many records, to the front of `out`.
 fn write_ending(ending: Ending, records: u32, out: &mut [u8]) -> Placed
     ensures { λ r. ⌜ ended r (now (out .exit)) ≡ putOf (lastRow ending records) (now (out .entry)) 0 ⌝ }
 {

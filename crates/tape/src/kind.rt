@@ -10,7 +10,7 @@ const POINT: u8 = 0x01;
 
 const ADDRESSED: u8 = 0x02;
 
-// The kind of a side's records.
+// The kind of a line's records.
 pub(crate) fn kind_of(line: Line) -> u8
     ensures { λ r. ⌜ r ≡ kindOf line ⌝ }
 {
@@ -20,7 +20,7 @@ pub(crate) fn kind_of(line: Line) -> u8
     }
 }
 
-// What follows a kind byte that comes after so many whole records.
+// What follows a kind byte that comes after this many whole records.
 pub(crate) fn after_kind(records: u32, kind: u8) -> Next
     ensures { λ r. ⌜ r ≡ afterKind records kind ⌝ }
 {

@@ -7,7 +7,7 @@ use link::is_bad_state;
 use tape_spec::Line;
 use tape_spec::Receivers;
 ghost use mathlib.Core.Path.{_≡_};
-ghost use Rattle.tape_spec.specs.Whole.{freshReceivers, receiverOn as onSide, withReceiver as turnedOn};
+ghost use Rattle.tape_spec.specs.Whole.{freshReceivers, receiverOn, withReceiver};
 ghost use Rattle.tape_spec.specs.Taping.{badReceivers};
 
 pub(crate) fn fresh_receivers() -> Receivers
@@ -21,9 +21,9 @@ pub(crate) fn fresh_receivers() -> Receivers
     }
 }
 
-// The receiver of a side.
+// The receiver of a line.
 pub(crate) fn receiver_on(receivers: Receivers, line: Line) -> Receiver
-    ensures { λ r. ⌜ r ≡ onSide line receivers ⌝ }
+    ensures { λ r. ⌜ r ≡ receiverOn line receivers ⌝ }
 {
     match line {
         Line::Point => receivers.point,
@@ -31,9 +31,9 @@ pub(crate) fn receiver_on(receivers: Receivers, line: Line) -> Receiver
     }
 }
 
-// With another receiver on a side.
+// With another receiver on a line.
 pub(crate) fn with_receiver(receivers: Receivers, line: Line, receiver: Receiver) -> Receivers
-    ensures { λ r. ⌜ r ≡ turnedOn line receiver receivers ⌝ }
+    ensures { λ r. ⌜ r ≡ withReceiver line receiver receivers ⌝ }
 {
     match line {
         Line::Point => {

@@ -1,4 +1,4 @@
-// The line of an event.
+// The row of an event.
 use crate::word::Word;
 use ground::Placed;
 use ground::Refusal;
@@ -38,7 +38,7 @@ pub(crate) fn put_heard(number: u32, line: Line, heard: Heard, out: &mut [u8], a
     }
 }
 
-// Puts a line with the name of an event, and the content that it shows.
+// Puts a row with the name of an event, and the content that it shows.
 fn put_row(
     number: u32,
     line: Line,

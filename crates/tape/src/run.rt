@@ -16,15 +16,15 @@ ghost use Rattle.tape_spec.specs.Limits.{mostRecords};
 ghost use Rattle.tape_spec.specs.Whole.{kindOf};
 ghost use Rattle.tape.specs.Running.{Least, Gathered, left, runLeft, running, RunHeard as HeardOf};
 
-// The receiver behind the records that were heard, their count, and where their lines end.
+// The receiver after the records that were heard, their count, and where their rows end.
 pub(crate) struct Ran {
     pub(crate) receiver: Receiver,
     pub(crate) count: usize,
     pub(crate) end: usize,
 }
 
-// Hears the body at the front of `chunk` and those of the whole records of the same kind right behind it, as many as `piece` holds and a
-// tape may, and puts their lines while there is room for another.
+// Hears the body at the front of `chunk` and those of the whole records of the same kind right after it, as many as `piece` holds and a
+// tape may, and puts their rows while there is room for another.
 pub(crate) fn run(
     line: Line,
     receiver: Receiver,
@@ -46,7 +46,7 @@ pub(crate) fn run(
     hear(line, receiver, records, &piece[..count], out, at)
 }
 
-// Gathers the bodies into `piece`, at most so many, and answers how many there are.
+// Gathers the bodies into `piece`, at most `most`, and answers how many there are.
 fn gather(kind: u8, most: usize, chunk: &[u8], piece: &mut [u8]) -> usize
     requires { ⌜ 0 < length (now chunk) ⌝ }
     requires { ⌜ 0 < most ⌝ }
@@ -71,7 +71,7 @@ fn least(a: usize, b: usize) -> usize
     if a < b { a } else { b }
 }
 
-// Hears bodies, and puts their lines while there is room for another.
+// Hears bodies, and puts their rows while there is room for another.
 fn hear(
     line: Line,
     receiver: Receiver,

@@ -1,4 +1,4 @@
-// A tape's record: before its first byte, in a bad state, and over.
+// A tape's state: before its first byte, bad, and over.
 use crate::receivers::fresh_receivers;
 use crate::receivers::has_bad;
 use tape_spec::MOST_RECORDS;
@@ -18,7 +18,7 @@ pub fn fresh_tape() -> Tape
     }
 }
 
-// Whether a call on a chunk refuses it (BadState): a receiver that the link refuses, or a body behind the last permitted record.
+// Whether a call on a chunk refuses it (BadState): a receiver that the link refuses, or a body after the last permitted record.
 pub(crate) fn is_bad(tape: Tape) -> bool
     ensures { λ r. ⌜ r ≡ badTape tape ⌝ }
 {
@@ -35,7 +35,7 @@ pub(crate) fn is_bad(tape: Tape) -> bool
     }
 }
 
-// Whether nothing further is read: an unknown kind came, or a byte behind the last permitted record.
+// Whether nothing further is read: an unknown kind came, or a byte after the last permitted record.
 pub fn is_over(tape: Tape) -> bool
     ensures { λ r. ⌜ r ≡ isOver (tape .next) ⌝ }
 {

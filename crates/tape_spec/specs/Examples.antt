@@ -12,7 +12,7 @@ use Rattle.tape_spec.specs.Whole.{parts, listing}
 
 pub data Example : Type 0 where
   lists : (tape : List ℕ) (printed : String) → Example
-  -- behind so many records the tape ends like this
+  -- after this many records the tape ends like this
   ends : (records : ℕ) (tape : List ℕ) (ending : Ending) → Example
   last : (ending : Ending) (records : ℕ) (printed : String) → Example
 
@@ -28,7 +28,7 @@ examples =
     ∷ lists [] "record line event content\nend 0\n"
     ∷ lists (0x01 ∷ []) "record line event content\ncut 0\n"
     ∷ lists (0x03 ∷ []) "record line event content\nbad 0\n"
-    -- nothing is read behind an unknown kind
+    -- nothing is read after an unknown kind
     ∷ lists (0x01 ∷ 0xFD ∷ 0x00 ∷ 0x01 ∷ 0xFE ∷ []) "record line event content\nbad 1\n"
     -- what was heard on one line does not disturb a frame on the other
     ∷ lists (0x02 ∷ 0xFD ∷ 0x01 ∷ 0xFD ∷ 0x02 ∷ 0x00 ∷ 0x01 ∷ 0xFF ∷ 0x02 ∷ 0x01 ∷ 0x01 ∷ 0xFE ∷ 0x02 ∷ 0x10 ∷ 0x02 ∷ 0x11 ∷ 0x02 ∷ 0xFE ∷ [])
@@ -38,7 +38,7 @@ examples =
     "record line event content\n1 P SHORT -\n7 P FRAME 00.00\n13 P CHECK -\nend 14\n"
     -- ADDR, and deaf until the next FD
     ∷ lists (0x02 ∷ 0xFD ∷ 0x02 ∷ 0x05 ∷ 0x02 ∷ 0xFE ∷ 0x02 ∷ 0xFD ∷ []) "record line event content\n1 A ADDR -\nend 4\n"
-    -- the last permitted record, and a byte behind it
+    -- the last permitted record, and a byte after it
     ∷ ends 0xFFFFFFFE (0x01 ∷ 0xFD ∷ []) END
     ∷ ends 0xFFFFFFFE (0x01 ∷ 0xFD ∷ 0x01 ∷ []) FULL
     ∷ ends 0xFFFFFFFF [] END

@@ -12,19 +12,19 @@ use Rattle.tape_spec.specs.Whole.{Record, heardOn, Entry, entry, station
 
 -- ---- what was heard on a line
 
--- a record's byte, where it was heard on this side
+-- a record's byte, where it was heard on this line
 abbrev pub byteOn : Line → Record → List ℕ
 byteOn Point (heardOn Point b) = b ∷ []
 byteOn Point (heardOn Addressed b) = []
 byteOn Addressed (heardOn Point b) = []
 byteOn Addressed (heardOn Addressed b) = b ∷ []
 
--- the bytes heard on a side, in order
+-- the bytes heard on a line, in order
 unfoldable pub bytesOn : Line → List Record → List ℕ
 bytesOn line [] = []
 bytesOn line (r ∷ rs) = byteOn line r ++ bytesOn line rs
 
--- behind so many records stands one that has the byte at this place of its line, the number of the byte there (the first byte is 1)
+-- after this number of records stands the one that has the byte at this place of its line (the first byte's place is 1)
 pub record HasByte (records : List Record) (number : ℕ) (line : Line) (place : ℕ) : Type 0 where
   pub before : List Record
   pub byte : ℕ

@@ -1,4 +1,4 @@
--- The lines of a listing. 01, The listing program. Assumes nothing.
+-- The rows of a listing. 01, The listing program. Assumes nothing.
 use Prim.Native.Nat.{ℕ}
 use mathlib.Core.List.{List, [], _++_}
 use lib.ListN.{take}
@@ -12,7 +12,7 @@ use Rattle.tape_spec.specs.declared.tape.Ending.the-variants.{End, Cut, 
 use Rattle.tape_spec.specs.declared.tape.Line.{Line}
 use Rattle.tape_spec.specs.declared.tape.Line.the-variants.{Point, Addressed}
 
--- the line above all others
+-- the row above all others
 unfoldable pub headerRow : List ℕ
 headerRow = ascii "record line event content\n"
 
@@ -35,7 +35,7 @@ nameOf LONG = ascii "LONG "
 nameOf PAIR = ascii "PAIR "
 nameOf ADDR = ascii "ADDR "
 
--- one line for an event, with its content for FRAME; none where nothing happened
+-- one row for an event, with its content for FRAME; none where nothing happened
 unfoldable pub eventRow : ℕ → Line → Name → List ℕ → List ℕ
 eventRow number line NONE content = []
 eventRow number line FRAME content = row number line (nameOf FRAME) content
@@ -49,7 +49,7 @@ eventRow number line ADDR content = row number line (nameOf ADDR) []
 abbrev pub carried : Said → List ℕ
 carried said = take (said .length) (said .content)
 
--- the line of what a receiver said of a byte
+-- the row of what a receiver said of a byte
 abbrev pub heardRow : ℕ → Line → Said → List ℕ
 heardRow n line said = eventRow n line (said .event) (carried said)
 

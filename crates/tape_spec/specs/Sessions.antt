@@ -13,7 +13,7 @@ use Rattle.tape_spec.specs.declared.tape.Tape.{Tape}
 use Rattle.tape_spec.specs.declared.tape.Listed.{Listed}
 use Rattle.tape_spec.specs.Taping.{isOver, listedOut, listed, lastRowOf, freshTape}
 
--- a line written by a call that was not refused: by its statement, to a buffer that held any bytes before
+-- a row written by a call that was not refused: by its statement, to a buffer that held any bytes before
 pub record RowWritten (row text : List ℕ) : Type 0 where
   pub result : Placed
   pub out : List ℕ
@@ -22,9 +22,9 @@ pub record RowWritten (row text : List ℕ) : Type 0 where
   pub fine : ended result last .refusal ≡ 0
   pub writes : text ≡ take (result .end) last
 
--- What is left of a tape behind so many bytes, and the text of its calls: either the tape is used up or nothing further is read, and the
--- last line is written; or there is one call more, on any chunk, empty too, that continues there, with any buffer, and the session goes
--- on with the tape and behind the bytes that the call answered. A refused call is one of these: it takes and writes nothing.
+-- What is left of a tape after this many bytes, and the text of its calls: either the tape is used up or nothing further is read, and the
+-- last row is written; or there is one call more, on any chunk, empty too, that continues there, with any buffer, and the session goes on
+-- with the tape that the call answered, after the bytes that it took. A refused call is one of these: it takes and writes nothing.
 pub data TapeSession (bytes : List ℕ) : Tape → ℕ → List ℕ → Type 0 where
   over : {t : Tape} {before : ℕ} {text : List ℕ}
       → (length bytes ≤ before) ⊎ (isOver (t .next) ≡ true)
@@ -36,7 +36,7 @@ pub data TapeSession (bytes : List ℕ) : Tape → ℕ → List ℕ → Type 0 w
       → TapeSession bytes (r .tape) (before + r .taken) more
       → TapeSession bytes t before (take (r .written) last ++ more)
 
--- the header line, and then a session of the whole tape from a fresh one on
+-- the header row, and then a session of the whole tape from a fresh one on
 pub data Listing (bytes : List ℕ) : List ℕ → Type 0 where
   begun : {t : Tape} {header more : List ℕ}
       → RowWritten headerRow header

@@ -30,16 +30,16 @@ freshTape = tapeOf 0 Kind freshReceivers
 
 -- ---- one byte of a tape
 
--- behind a kind byte its body is next, and nothing behind an unknown kind
+-- after a kind byte its body is next, and nothing after an unknown kind
 abbrev pub awaited : whole.Kind → Next
 awaited (known line) = Body line
 awaited unknown = Bad
 
--- nor behind a byte after the last permitted record
+-- nor after a byte that follows the last permitted record
 unfoldable pub afterKind : ℕ → ℕ → Next
 afterKind records k = cond (eqb records mostRecords) Full (awaited (kind k))
 
--- the tape behind a byte, and the text that the byte brings
+-- the tape after a byte, and the text of the byte's event
 pub record Step : Type 0 where
   pub tape : Tape
   pub text : List ℕ
@@ -67,7 +67,7 @@ isOver Full = true
 
 -- ---- one call on a chunk
 
--- the tape behind the bytes taken, their number, and the text that they brought
+-- the tape after the bytes taken, their number, and the text of their events
 pub record Went : Type 0 where
   pub tape : Tape
   pub taken : ℕ
@@ -76,11 +76,11 @@ pub record Went : Type 0 where
 abbrev pub standing : Tape → Went
 standing t = record { tape = t; taken = 0; text = [] }
 
--- what was taken and brought behind a step
+-- a step, and what was taken after it
 abbrev pub afterStep : Step → Went → Went
 afterStep s w = record { tape = w .tape; taken = 1 + w .taken; text = s .text ++ w .text }
 
--- byte by byte, while there is room for the longest line and something further is read
+-- byte by byte, while there is room for the longest row and something further is read
 unfoldable pub going : ℕ → Tape → List ℕ → Went
 going room t [] = standing t
 going room t (b ∷ bs) =
@@ -107,11 +107,11 @@ notListed why t out = record { refusal = number why; tape = t; taken = 0; writte
 abbrev pub listedTo : Tape → ℕ → ℕ → List ℕ → ListedOut
 listedTo t taken written out = record { refusal = 0; tape = t; taken = taken; written = written; out = out }
 
--- the text stands at the buffer's front, and bytes behind it stay as they were
+-- the text stands at the buffer's front, and bytes after it stay as they were
 abbrev pub textWritten : Went → List ℕ → ListedOut
 textWritten w out = listedTo (w .tape) (w .taken) (length (w .text)) (laid out 0 (w .text))
 
--- in the sense of row 4: a receiver that the link refuses, or a body behind the last permitted record, is BadState
+-- in the sense of row 4: a receiver that the link refuses, or a body after the last permitted record, is BadState
 abbrev pub badReceivers : Receivers → Bool
 badReceivers r = badReceiver (r .point) || badReceiver (r .addressed)
 
@@ -130,7 +130,7 @@ listed t chunk out =
     cond (badTape t) (notListed BadState t out)
     (cond (ltb (length out) leastRoom) (notListed NoRoom t out) (textWritten (going (length out) t chunk) out))
 
--- ---- the last line
+-- ---- the last row
 
 -- how a tape ends that has no byte more
 abbrev pub ending : Next → Ending

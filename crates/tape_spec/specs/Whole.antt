@@ -53,12 +53,12 @@ abbrev pub bodyless : Kind → Ending
 bodyless (known line) = CUT
 bodyless unknown = BAD
 
--- a kind and a byte behind it: a record before others; behind an unknown kind nothing is read further
+-- a kind and a byte after it: a record before others; after an unknown kind nothing is read further
 abbrev pub before : Kind → ℕ → Parts → Parts
 before (known line) b parts = record { records = heardOn line b ∷ parts .records; ending = parts .ending }
 before unknown b parts = noMore BAD
 
--- from behind so many whole records on; a byte after 2^32 - 1 records is `full`, and nothing is read further
+-- after n whole records; a byte after 2^32 - 1 records is `full`, and nothing is read further
 unfoldable pub parts : ℕ → List ℕ → Parts
 parts n [] = noMore END
 parts n (k ∷ []) = noMore (cond (eqb n mostRecords) FULL (bodyless (kind k)))
@@ -78,12 +78,12 @@ abbrev pub receiverOn : Line → Receivers → Receiver
 receiverOn Point r = r .point
 receiverOn Addressed r = r .addressed
 
--- the receivers, with another on this side
+-- the receivers, with another on this line
 abbrev pub withReceiver : Line → Receiver → Receivers → Receivers
 withReceiver Point receiver r = record { point = receiver; addressed = r .addressed }
 withReceiver Addressed receiver r = record { point = r .point; addressed = receiver }
 
--- what a line is made of: the number of records before the one that brought it, its line, the event, and the content without check
+-- what a row shows: the number of records before the event's, the line, the event, and the content without check
 pub record Entry : Type 0 where
   pub number : ℕ
   pub line : Line
@@ -93,19 +93,19 @@ pub record Entry : Type 0 where
 abbrev pub entry : ℕ → Line → Name → List ℕ → Entry
 entry number line event content = record { number = number; line = line; event = event; content = content }
 
--- what a record brings, of which the receiver said this: one entry, unless nothing happened
+-- the entry of a record of which the receiver said this, unless nothing happened
 unfoldable pub entryOf : ℕ → Line → Said → List Entry
 entryOf number line said =
     cond (happened (said .event)) (entry number line (said .event) (carried said) ∷ []) []
 
--- the entries of records from behind so many others on: each hands its byte to the receiver of its line
+-- the entries of records after n others: each record's byte goes to the receiver of its line
 unfoldable pub entries : ℕ → Receivers → List Record → List Entry
 entries n r [] = []
 entries n r (heardOn line b ∷ rs) =
     let said = received (receiverOn line r) (b ∷ []) in
     entryOf n line said ++ entries (n + 1) (withReceiver line (said .receiver) r) rs
 
--- their text, one line per entry
+-- their text, one row per entry
 unfoldable pub entryRows : List Entry → List ℕ
 entryRows [] = []
 entryRows (e ∷ es) = eventRow (e .number) (e .line) (e .event) (e .content) ++ entryRows es
@@ -113,7 +113,7 @@ entryRows (e ∷ es) = eventRow (e .number) (e .line) (e .event) (e .content) ++
 abbrev pub eventRows : ℕ → Receivers → List Record → List ℕ
 eventRows n r rs = entryRows (entries n r rs)
 
--- header, one line per event, last line
+-- header, one row per event, last row
 unfoldable pub listing : List ℕ → List ℕ
 listing tape =
     let p = parts 0 tape in

@@ -1,4 +1,4 @@
--- The decimal digits of a number, in ASCII. 01, The listing program: the numbers in a line. Assumes nothing.
+-- The decimal digits of a number, in ASCII. 01, The listing program: the numbers in a row. Assumes nothing.
 use Prim.Native.Nat.{ℕ, zero, suc, _+_, _*_, _-_, _/_, _%_}
 use mathlib.Core.Bool.{cond}
 use mathlib.Core.List.{List, [], _∷_, _++_}
@@ -8,7 +8,7 @@ use lib.Dec.{eqb}
 abbrev pub digit : ℕ → ℕ
 digit n = 0x30 + n
 
--- the last digit, behind those of the tenth part unless that is zero; so many digits at most
+-- the last digit, after those of the tenth part unless that is zero; at most this many digits
 unfoldable pub spelled : ℕ → ℕ → List ℕ
 spelled zero n = []
 spelled (suc most) n = cond (eqb (n / 10) 0) [] (spelled most (n / 10)) ++ (digit (n % 10) ∷ [])
@@ -20,7 +20,7 @@ mostDigits = 20
 abbrev pub decimal : ℕ → List ℕ
 decimal n = spelled mostDigits n
 
--- the number that digits stand for, behind one that was read before them
+-- the number that digits stand for, after one that was read before them
 unfoldable pub value : ℕ → List ℕ → ℕ
 value before [] = before
 value before (d ∷ ds) = value (before * 10 + (d - digit 0)) ds

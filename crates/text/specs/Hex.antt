@@ -17,7 +17,7 @@ dot = 0x2E
 abbrev pub pair : ℕ → List ℕ
 pair b = digit (b / 16) ∷ digit (b % 16) ∷ []
 
--- each pair behind a dot
+-- each pair after a dot
 unfoldable pub further : List ℕ → List ℕ
 further [] = []
 further (b ∷ bs) = dot ∷ (pair b ++ further bs)

@@ -1,4 +1,4 @@
-// A frame put together: head, data and the check behind them, and then its image.
+// A frame put together: head, data and the check after them, and then its image.
 use crate::image::write_image;
 use checks::Check;
 use checks::check_length;
@@ -17,7 +17,7 @@ ghost use Rattle.checks.specs.Check.{checkOf, checkLength, withCheck};
 ghost use Rattle.wire_spec.specs.Limits.{mostContent};
 ghost use Rattle.wire_spec.specs.Writing.{after, imageWritten, frameWritten};
 
-// Lays the check of the first `front` bytes of `content` behind them.
+// Lays the check of the first `front` bytes of `content` after them.
 fn lay_check(check: Check, content: &mut [u8], front: usize)
     requires { ⌜ front + checkLength check ≤ length (now content) ⌝ }
     ensures { λ _. ⌜ now (content .exit) ≡ laid (now (content .entry)) front (checkOf check (take front (now (content .entry)))) ⌝ }

@@ -1,4 +1,4 @@
-// A content stuffed, and how many of its bytes are.
+// A content stuffed, and how many of its bytes travel as two.
 use wire_spec::ESCAPE;
 ghost use mathlib.Core.Path.{_≡_};
 ghost use Prim.Native.Nat.{_+_, _≤_};
@@ -9,7 +9,7 @@ ghost use Rattle.wire_spec.specs.Stuffing.{stuffed as stuffedOf, stuffing as st
 // FD, FE and FF are special: the last three of all bytes.
 const FIRST_SPECIAL: u8 = 0xFD;
 
-// Lays one byte, stuffed, into `room` at the place `at`, and answers the place behind it.
+// Lays one byte, stuffed, into `room` at the place `at`, and answers the place after it.
 fn stuff_byte(byte: u8, room: &mut [u8], at: usize) -> usize
     requires { ⌜ at + length (stuffedOf byte) ≤ length (now room) ⌝ }
     ensures { λ r. ⌜ (r ≡ at + length (stuffedOf byte)) × (now (room .exit) ≡ laid (now (room .entry)) at (stuffedOf byte)) ⌝ }

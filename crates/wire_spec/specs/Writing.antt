@@ -35,7 +35,7 @@ after r out = leaving (tallyOf r) out
 abbrev pub notWritten : Refusal → List ℕ → After
 notWritten why out = leaving (refused why) out
 
--- 01, Layout of a frame, the last paragraph: the count is the image's length, and bytes behind the image stay as they were
+-- 01, Layout of a frame, the last paragraph: the count is the image's length, and bytes after the image stay as they were
 abbrev pub putting : List ℕ → List ℕ → After
 putting content out = leaving (counted (length (image content))) (onto (image content) out)
 

@@ -27,7 +27,7 @@ unfolding laid
 length-laid l at x h =
     simp (length-append, length-take, length-drop) (omega arith)
 
--- up to its end, what was laid stands behind what was there
+-- up to its end, what was laid stands after what was there
 take-laid : (l : List ℕ) (at : ℕ) (x : List ℕ) → at ≤ length l → take (at + length x) (laid l at x) ≡ take at l ++ x
 unfolding laid
 take-laid l at x h =
@@ -50,7 +50,7 @@ laid-more l at x y h =
     ap₂ (λ (a b : List ℕ). a ++ (y ++ b)) (take-laid l at x h) (drop-laid l at x (length y) h)
     ∙ simp (append-assoc, length-append, add-assoc)
 
--- what is laid at the front stands before what was behind it
+-- what is laid at the front stands before what was after it
 pub laid-front : (l x : List ℕ) → laid l 0 x ≡ onto x l
 unfolding laid
 laid-front l x = rw zero-add
@@ -59,30 +59,30 @@ laid-front l x = rw zero-add
 pub laid-whole : (l x : List ℕ) → length l ≤ length x → laid l 0 x ≡ x
 laid-whole l x whole = laid-front l x ∙ rw (drop-of-length-le l whole) (append-nil x)
 
--- at the front of a buffer: what was laid, and what is laid behind it
+-- at the front of a buffer: what was laid, and what is laid after it
 pub take-front : (l x : List ℕ) → take (length x) (laid l 0 x) ≡ x
 take-front l x = rw (zero-add (length x)) at (take-laid l 0 x zero-le)
 
-pub laid-behind : (l x y : List ℕ) → laid (laid l 0 x) (length x) y ≡ laid l 0 (x ++ y)
-laid-behind l x y = rw (zero-add (length x)) at (laid-more l 0 x y zero-le)
+pub laid-after : (l x y : List ℕ) → laid (laid l 0 x) (length x) y ≡ laid l 0 (x ++ y)
+laid-after l x y = rw (zero-add (length x)) at (laid-more l 0 x y zero-le)
 
 -- a byte put into its place is laid there
 pub set-laid : (l : List ℕ) (at b : ℕ) → at < length l → set l at b ≡ laid l at (b ∷ [])
 unfolding laid
 set-laid l at b h = set-split l at b h ∙ rw (← add-one at)
 
--- a byte, and then the bytes behind it
+-- a byte, and then the bytes after it
 pub laid-next : (l : List ℕ) (at b : ℕ) (x : List ℕ) → at < length l → laid (set l at b) (at + 1) x ≡ laid l at (b ∷ x)
 laid-next l at b x h = rw (set-laid l at b h) (laid-more l at (b ∷ []) x (omega arith))
 
--- a byte put behind what was laid
-pub set-behind : (l : List ℕ) (at : ℕ) (x : List ℕ) (b : ℕ) → at + length x < length l
+-- a byte put after what was laid
+pub set-after : (l : List ℕ) (at : ℕ) (x : List ℕ) (b : ℕ) → at + length x < length l
     → set (laid l at x) (at + length x) b ≡ laid l at (x ++ (b ∷ []))
-set-behind l at x b h =
+set-after l at x b h =
     set-laid (laid l at x) (at + length x) b (rw (length-laid l at x (omega arith)) h) ∙ laid-more l at x (b ∷ []) (omega arith)
 
 pub set-two : (l : List ℕ) (at a b : ℕ) → at + 2 ≤ length l → set (set l at a) (at + 1) b ≡ laid l at (a ∷ b ∷ [])
-set-two l at a b h = rw (set-laid l at a (omega arith)) (set-behind l at (a ∷ []) b (omega arith))
+set-two l at a b h = rw (set-laid l at a (omega arith)) (set-after l at (a ∷ []) b (omega arith))
 
 -- what was laid into a part that was lent, from the place `at` to the end, stands there in the whole
 pub laid-part : (l : List ℕ) (at : ℕ) (x : List ℕ) → at + length x ≤ length l
@@ -103,7 +103,7 @@ pub put-placed : (bytes out : List ℕ) (at : ℕ) → length bytes ≤ length o
 unfolding put
 put-placed bytes out at h = simp (le-ltb (length out - at) (length bytes) h)
 
--- a result that ends behind the bytes, and the buffer with them in it, is what is placed
+-- a result that ends after the bytes, and the buffer with them in it, is what is placed
 pub placed-is : (bytes out : List ℕ) (at : ℕ) {end : ℕ} {o : List ℕ} → end ≡ at + length bytes → o ≡ laid out at bytes
     → record { refusal = 0; end = end; out = o } ≡ placed bytes out at
 placed-is bytes out at = ap₂ (λ (k : ℕ) (l : List ℕ). record { refusal = 0; end = k; out = l })
@@ -142,7 +142,7 @@ placed-more x y out at begins = placed-is (x ++ y) out at (omega (arith, length-
 pub take-placed : (bytes out : List ℕ) → take (placed bytes out 0 .end) (placed bytes out 0 .out) ≡ bytes
 take-placed bytes out = rw (zero-add (length bytes)) (take-front out bytes)
 
--- bytes put to the front of a buffer: where there is room for them, what stands behind them stays
+-- bytes put to the front of a buffer: where there is room for them, what stands after them stays
 pub put-onto : {e : Ended} (bytes buffer : List ℕ) → e ≡ put bytes buffer 0 → length bytes ≤ length buffer → e .out ≡ onto bytes buffer
 put-onto bytes buffer says fits = put-laid bytes buffer 0 says (omega arith) ∙ laid-front buffer bytes
 
@@ -150,9 +150,9 @@ put-onto bytes buffer says fits = put-laid bytes buffer 0 says (omega arith) ∙
 pub put-whole : {e : Ended} (bytes buffer : List ℕ) → e ≡ put bytes buffer 0 → length bytes ≡ length buffer → e .out ≡ bytes
 put-whole bytes buffer says same = put-laid bytes buffer 0 says (omega arith) ∙ laid-whole buffer bytes (omega arith)
 
--- ---- one part of a text behind the other
+-- ---- one part of a text after the other
 
--- Calls that put one part of a text behind the other, from a place of a buffer on, and what the last of them answers and leaves.
+-- Calls that put one part of a text after the other, from a place of a buffer on, and what the last of them answers and leaves.
 pub data Puts : List ℕ → ℕ → List ℕ → Ended → Type 0 where
   last : {out : List ℕ} {at : ℕ} {x : List ℕ} {e : Ended} → e ≡ put x out at → Puts out at x e
   then : {out : List ℕ} {at : ℕ} {y : List ℕ} {e : Ended} (x : List ℕ) (r : Placed) (o : List ℕ)

@@ -1,5 +1,5 @@
 -- A piece is heard byte by byte: a call on it answers what a call on its first byte answers or, where that has no event, what a call on
--- the others answers behind it. So a hearing may go on byte by byte.
+-- the others answers after it. So a hearing may go on byte by byte.
 -- Assumes nothing.
 use mathlib.Core.Path.{_≡_, refl, sym, ap, subst, _∙_}
 use mathlib.Core.Bool.{Bool, true, false, cond, true≢false, false≢true}
@@ -12,7 +12,7 @@ use Rattle.link_spec.specs.Receiving.{Said, turnAt, moved, hasEvent, out
 use Rattle.link_spec.specs.Hearing.{Told, toldAt, note, tells, Hearing, call}
 use Rattle.link_spec.proofs.Laws.Receiving.{hears, received-answers, event-happens, takes-one, stays-good}
 
--- an answer behind one byte more
+-- an answer after one byte more
 abbrev pub later : Said → Said
 later said =
     record {
@@ -24,7 +24,7 @@ later said =
       taken = said .taken + 1;
     }
 
--- a choice of the same kind on both sides
+-- the same choice with and without it
 later-cond : (e : Bool) (x on : Said) {more : Said} → more ≡ later on → cond e (later x) more ≡ later (cond e x on)
 later-cond true x on same = refl
 later-cond false x on same = same
@@ -72,7 +72,7 @@ module _ (s : Receiver) (good : badReceiver s ≡ false) (b : ℕ) where
       (sym (ap (λ (said : Said). happened (said .event)) one) ∙ h)
       ∙ sym one
 
-  -- without one the others are heard behind it
+  -- without one the others are heard after it
   pub received-later : (bs : List ℕ) → happened (received s (b ∷ []) .event) ≡ false
       → received s (b ∷ bs) ≡ later (received (received s (b ∷ []) .receiver) bs)
   unfolding event none

@@ -27,9 +27,9 @@ use Rattle.link_spec.proofs.Laws.Turning.{rule-only}
 use Rattle.link_spec.proofs.Laws.View.{View, view, nowhere, next, noted}
 use Rattle.link_spec.proofs.Laws.Cuts.{tell}
 
--- ---- what a content byte may be behind those before it
+-- ---- what a content byte may be after those before it
 
--- a byte that stands for itself is kept: as the address or behind it
+-- a byte that stands for itself is kept: as the address or after it
 plain-kept : (station : Station) (k : List ℕ) (b : ℕ) (c : List ℕ) → Taken station (k ++ (b ∷ c)) → special b ≡ false → length k < mostContent
     → ByRule station (length k) b Inside (Keep b)
 plain-kept Point k b c taken other room = plain onPoint other room

@@ -18,16 +18,16 @@ use Rattle.link_spec.proofs.Laws.Fit.{sound-at, Fit, fit-at, fit-good}
 use Rattle.link_spec.proofs.Laws.Receiving.{heard-elim, hears}
 use Rattle.link_spec.proofs.Laws.View.{View, seen, turns, next, noted, turns-seen, seen-moved, noted-seen, quiet}
 
--- what the bytes tell one by one, from behind a place on
+-- what the bytes after a place tell one by one
 unfoldable pub tell : Station → View → ℕ → List ℕ → List Told
 tell station v at [] = []
 tell station v at (b ∷ bs) = noted station v (at + 1) (turns station v b) ++ tell station (next v (turns station v b)) (at + 1) bs
 
--- the same of a record
-tell-record : {station : Station} {s : Receiver} → Fit station s → (at b : ℕ) (l : List ℕ)
+-- the same of a receiver
+tell-receiver : {station : Station} {s : Receiver} → Fit station s → (at b : ℕ) (l : List ℕ)
     → tell station (seen s) at (b ∷ l) ≡ noted station (seen s) (at + 1) (turnAt s b) ++ tell station (seen (moved s (turnAt s b))) (at + 1) l
 unfolding tell
-tell-record {station} {s} fit at b l =
+tell-receiver {station} {s} fit at b l =
     rw (seen-moved fit (turnAt s b) (sound-at s b), turns-seen fit b)
 
 module _ (station : Station) (stream : List ℕ) (before : ℕ) where
@@ -51,7 +51,7 @@ module _ (station : Station) (stream : List ℕ) (before : ℕ) where
         fit-at fit b,
         ap₂ _++_ (noted-seen fit (before + (taken + 1)) t) (ap (tell station (seen (moved s t)) (before + (taken + 1))) left)
             ∙ ap (λ (n : ℕ). noted station (seen s) n t ++ tell station (seen (moved s t)) n l) (shift taken)
-            ∙ sym (tell-record fit (before + taken) b l),
+            ∙ sym (tell-receiver fit (before + taken) b l),
       )
 
   on-tells : {s : Receiver} → Fit station s → (b : ℕ) (l : List ℕ) (taken : ℕ) (said : Said)
@@ -65,7 +65,7 @@ module _ (station : Station) (stream : List ℕ) (before : ℕ) where
             ∙ ap (λ (n : ℕ). tell station (seen (moved s t)) n l) (shift taken)
             ∙ ap (λ (e : List Told). e ++ tell station (seen (moved s t)) (before + taken + 1) l)
             (sym (quiet station (seen s) (before + taken + 1) t none))
-            ∙ sym (tell-record fit (before + taken) b l),
+            ∙ sym (tell-receiver fit (before + taken) b l),
       )
 
   left-next : (b : ℕ) (l : List ℕ) (taken : ℕ) → drop (before + taken) stream ≡ b ∷ l → drop (before + (taken + 1)) stream ≡ l

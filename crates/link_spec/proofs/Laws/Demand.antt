@@ -54,15 +54,15 @@ rise-tell station v at (b ∷ bs) =
 
 -- ---- an image that stands is told
 
--- what is told from any state on is told behind other bytes too
-tell-behind : (station : Station) (p l : List ℕ) (v : View) (at : ℕ) (x : Told)
+-- what is told from any state on is told after other bytes too
+tell-after : (station : Station) (p l : List ℕ) (v : View) (at : ℕ) (x : Told)
     → ((u : View) → List·Memᴰ x (tell station u (at + length p) l)) → List·Memᴰ x (tell station v at (p ++ l))
 unfolding tell
-tell-behind station [] l v at x m = subst (λ (n : ℕ). List·Memᴰ x (tell station v n l)) (add-zero at) (m v)
-tell-behind station (b ∷ p) l v at x m =
+tell-after station [] l v at x m = subst (λ (n : ℕ). List·Memᴰ x (tell station v n l)) (add-zero at) (m v)
+tell-after station (b ∷ p) l v at x m =
     let shift : at + suc (length p) ≡ at + 1 + length p = omega arith in
     Memᴰ·append-right (noted station v (at + 1) (turns station v b))
-    (tell-behind station p l (next v (turns station v b)) (at + 1) x (λ u. subst (λ (n : ℕ). List·Memᴰ x (tell station u n l)) shift (m u)))
+    (tell-after station p l (next v (turns station v b)) (at + 1) x (λ u. subst (λ (n : ℕ). List·Memᴰ x (tell station u n l)) shift (m u)))
 
 right-verdict : (check : Check) (content : List ℕ) → let c = withCheck check content in
     leastContent ≤ length c → verdict check c ≡ telling Frame (length c - checkLength check)
@@ -87,7 +87,7 @@ stands-told station good stream v place content s =
     let here : (u : View) → List·Memᴰ x (tell station u (0 + length (s .before)) (image c ++ s .after)) =
     λ u. subst⁻¹ (List·Memᴰ x) (image-tells station good u c (s .after) (0 + length (s .before)) (s .most) (s .address))
     (Memᴰ·append-left (tell station nowhere (0 + length (s .before) + length (image c)) (s .after)) told) in
-    subst⁻¹ (λ (w : List ℕ). List·Memᴰ x (tell station v 0 w)) (s .split) (tell-behind station (s .before) (image c ++ s .after) v 0 x here)
+    subst⁻¹ (λ (w : List ℕ). List·Memᴰ x (tell station v 0 w)) (s .split) (tell-after station (s .before) (image c ++ s .after) v 0 x here)
 
 -- ---- demand 3
 

@@ -122,7 +122,7 @@ module _ (station : Station) (good : hasAddress station ≡ true) (heard : List 
 
 -- ---- where a FRAME is told
 
--- a stop byte tells FRAME only behind a content that is long enough and whose check is right; it carries what stands before the check
+-- a stop byte tells FRAME only after a content that is long enough and whose check is right; it carries what stands before the check
 record IsFrame (check : Check) (k : List ℕ) (v : Verdict) : Type 0 where
   least : leastContent ≤ length k
   whole : k ≡ withCheck check (front check k)

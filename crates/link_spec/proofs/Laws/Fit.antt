@@ -1,5 +1,5 @@
--- What a turn leaves of a receiver's record: its line, a count within the limit and a full array; and how much its event carries. Such a
--- record is none that a call refuses.
+-- What a turn leaves of a receiver's state: its station, a count within the limit and a full array; and how much its event carries. No call
+-- refuses such a state.
 -- Assumes nothing.
 use mathlib.Core.Path.{_≡_, refl, _∙_}
 use mathlib.Core.Bool.{true, false}
@@ -38,7 +38,7 @@ outcome-length check kept (Tell why) = zero-le
 
 -- ---- what a turn leaves
 
--- the line and the array's size stay, and a count within the limit stays within it
+-- the station and the array's size stay, and a count within the limit stays within it
 pub record Leaves (s r : Receiver) : Type 0 where
   pub station : r .station ≡ s .station
   pub sized : length (r .content) ≡ length (s .content)
@@ -67,7 +67,7 @@ sound-at s b = turn-sound (s .station) (s .phase) (s .count) b
 pub leaves-at : (s : Receiver) (b : ℕ) → Leaves s (moved s (turnAt s b))
 leaves-at s b = turn-leaves s (turnAt s b) (sound-at s b)
 
--- ---- a record of this line, with a count within the limit and a full array
+-- ---- a receiver of this station, with a count within the limit and a full array
 
 pub record Fit (station : Station) (s : Receiver) : Type 0 where
   pub on : s .station ≡ station

@@ -1,4 +1,4 @@
--- Fresh receivers: which stations have one, and that it is outside a frame, with a record that no call refuses.
+-- Fresh receivers: which stations have one, and that it is outside a frame, in a state that no call refuses.
 -- Assumes nothing.
 use mathlib.Core.Path.{_≡_, refl, sym, ap, subst⁻¹, _∙_}
 use mathlib.Core.Bool.{Bool, true, false, cond, true≢false, not-eq-not}
@@ -43,7 +43,7 @@ pub fresh-station : (own : ℕ) → isStation own ≡ true → IsFresh (Addresse
 unfolding freshMade
 fresh-station own good = addressed (record { refusal = None; receiver = freshReceiver (Addressed own) }) {own = own} (rw good) refl
 
--- a receiver of this line that no row of the refusal table names, outside a frame
+-- a receiver of this station that no row of the refusal table names, outside a frame
 pub record Begins (station : Station) (s : Receiver) : Type 0 where
   pub good : hasAddress station ≡ true
   pub fit : Fit station s

@@ -34,7 +34,7 @@ use Rattle.link_spec.proofs.Laws.Writers.{by-table, point-writes, addre
 use Rattle.link_spec.proofs.Laws.Fresh.{fresh-begins}
 use Rattle.link_spec.proofs.Laws.Demand.{hearing-lists}
 
--- ---- the crew's side
+-- ---- what the crew asks
 
 -- what a writer that refused nothing has written
 record Wrote («data» content : List ℕ) (w : After) : Type 0 where
@@ -128,7 +128,7 @@ addressed-listed r own address identifier command «data» out out′ before res
     (wrote (isNever address) «data» (addressedContent address identifier command «data») out r says none)
     (λ fits. addressed-image-listed own address identifier command «data» before rest fits taken fr)
 
--- ---- the desk's side
+-- ---- what the desk asks
 
 -- a content of 4 to 64 bytes has all that its line's frames have, and the writer writes it
 fields : (station : Station) → hasAddress station ≡ true → (front : List ℕ) → leastContent ≤ length (checked station front)

@@ -160,7 +160,7 @@ turn-happens check k count (Tell why) sound y = sound
 pub event-happens : (s : Receiver) (b : ℕ) → hasEvent (turnAt s b) ≡ true → happened (named (outcomeAt s (turnAt s b) .event)) ≡ true
 event-happens s b = turn-happens (checkOn (s .station)) (soFar s) (s .count) (turnAt s b) (sound-at s b)
 
--- no byte back, none behind the piece, at least one of a piece that has one, and all where nothing is told
+-- a call takes no byte back, none after the piece, at least one of a piece that has one, and all where it tells nothing
 pub record Takes (taken : ℕ) (piece : List ℕ) (said : Said) : Type 0 where
   pub least : taken ≤ said .taken
   pub most : said .taken ≤ taken + length piece

@@ -24,7 +24,7 @@ use Rattle.link_spec.specs.Events.{named, happened}
 use Rattle.link_spec.specs.Turning.{kept, plain as plainTurn, partner, contentByte, inside, within, turn}
 use Rattle.link_spec.specs.Rules.{Address, first, Later, onPoint, afterFirst, ByRule, ignored, begins, stops, address, noAddress, waits, plain, pair, noPair, longPlain, longPair}
 
--- behind the address the addressed line is like the point line
+-- after the address the addressed line is like the point line
 later-content : {station : Station} {count : ℕ} (b : ℕ) → Later station count → contentByte station count b ≡ plainTurn count b
 unfolding contentByte
 later-content b onPoint = refl

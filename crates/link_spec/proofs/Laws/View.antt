@@ -1,10 +1,10 @@
 -- A receiver as it is seen in the proof of demand 3: where it is, and the content so far as a list. A turn moves the view as it moves
--- the record.
+-- the receiver.
 -- Assumes nothing.
 use mathlib.Core.Path.{_≡_, refl, sym, ap, ap₂, _∙_}
 use mathlib.Core.Bool.{false, true≢false}
 use mathlib.Core.List.{List, [], _∷_, _++_}
-use Prim.Native.Nat.{ℕ, _+_}
+use Prim.Native.Nat.{ℕ}
 use native.Mathlib.Numerals.{add-one}
 use native.Mathlib.Omega.{arith}
 use lib.ListN.{length, take}
@@ -56,7 +56,7 @@ noted station v place t =
     let o = outcome (checkOn station) (v .kept) t in
     note place (named (o .event)) (take (o .length) (v .kept))
 
--- ---- the record behind it
+-- ---- the receiver that is seen
 
 module _ {station : Station} {s : Receiver} (fit : Fit station s) where
   length-seen : length (seen s .kept) ≡ s .count

@@ -36,31 +36,31 @@ pub bare-some : (command : Command) («data» : List ℕ) → (length «data» �
 bare-some command [] some = absurd (some refl)
 bare-some command (b ∷ more) some = refl
 
-pub writing-none : («data» : List ℕ) → length «data» ≡ 0 → Refused BadData ≡ writeAccepted «data»
-writing-none [] none = refl
-writing-none (b ∷ more) none = absurd (omega arith)
+pub write-none : («data» : List ℕ) → length «data» ≡ 0 → Refused BadData ≡ writeAccepted «data»
+write-none [] none = refl
+write-none (b ∷ more) none = absurd (omega arith)
 
-pub writing-some : {coded : Coded} («data» : List ℕ) → (length «data» ≡ 0 → ⊥) → parameterWith (getD «data» 0 0) ≡ coded
+pub write-some : {coded : Coded} («data» : List ℕ) → (length «data» ≡ 0 → ⊥) → parameterWith (getD «data» 0 0) ≡ coded
     → writeAcceptedTo coded (drop 1 «data») ≡ writeAccepted «data»
-writing-some [] some known = absurd (some refl)
-writing-some (code ∷ value) some known = ap (λ (k : Coded). writeAcceptedTo k value) (sym known)
+write-some [] some known = absurd (some refl)
+write-some (code ∷ value) some known = ap (λ (k : Coded). writeAcceptedTo k value) (sym known)
 
-pub writing-value : {p : Parameter} {t : Bool} («data» : List ℕ) → (length «data» ≡ 0 → ⊥) → parameterWith (getD «data» 0 0) ≡ Known p
+pub write-value : {p : Parameter} {t : Bool} («data» : List ℕ) → (length «data» ≡ 0 → ⊥) → parameterWith (getD «data» 0 0) ≡ Known p
     → isValueOf p (drop 1 «data») ≡ t
     → cond t (Accepted (Write p)) (Refused BadData) ≡ writeAccepted «data»
-writing-value {p} «data» some known taken =
-    ap (λ (t : Bool). cond t (Accepted (Write p)) (Refused BadData)) (sym taken) ∙ writing-some «data» some known
+write-value {p} «data» some known taken =
+    ap (λ (t : Bool). cond t (Accepted (Write p)) (Refused BadData)) (sym taken) ∙ write-some «data» some known
 
-pub reading-other : («data» : List ℕ) → (length «data» ≡ 1 → ⊥) → Refused BadData ≡ readAccepted «data»
-reading-other [] other = refl
-reading-other (code ∷ []) other = absurd (other refl)
-reading-other (code ∷ b ∷ more) other = refl
+pub read-other : («data» : List ℕ) → (length «data» ≡ 1 → ⊥) → Refused BadData ≡ readAccepted «data»
+read-other [] other = refl
+read-other (code ∷ []) other = absurd (other refl)
+read-other (code ∷ b ∷ more) other = refl
 
-pub reading-one : {coded : Coded} («data» : List ℕ) → length «data» ≡ 1 → parameterWith (getD «data» 0 0) ≡ coded
+pub read-one : {coded : Coded} («data» : List ℕ) → length «data» ≡ 1 → parameterWith (getD «data» 0 0) ≡ coded
     → readAcceptedFrom coded ≡ readAccepted «data»
-reading-one [] one known = absurd (omega arith)
-reading-one (code ∷ []) one known = ap readAcceptedFrom (sym known)
-reading-one (code ∷ b ∷ more) one known = absurd (omega arith)
+read-one [] one known = absurd (omega arith)
+read-one (code ∷ []) one known = ap readAcceptedFrom (sym known)
+read-one (code ∷ b ∷ more) one known = absurd (omega arith)
 
 -- ---- what is accepted is a row of the table
 
@@ -91,9 +91,9 @@ bare-row : (code : ℕ) (command : Command) («data» : List ℕ) → Accepts co
 bare-row code command [] row = row
 bare-row code command (b ∷ more) row = tt
 
-writing-row : («data» : List ℕ) → Row 0x01 «data» (writeAccepted «data»)
-writing-row [] = tt
-writing-row (code ∷ value) = of (parameterWith code) (parameter-named code)
+write-row : («data» : List ℕ) → Row 0x01 «data» (writeAccepted «data»)
+write-row [] = tt
+write-row (code ∷ value) = of (parameterWith code) (parameter-named code)
   where
     of : (k : Coded) → Named code k → Row 0x01 (code ∷ value) (writeAcceptedTo k value)
     of coded.Unknown named = tt
@@ -101,10 +101,10 @@ writing-row (code ∷ value) = of (parameterWith code) (parameter-named code)
         cond-elim (Row 0x01 (code ∷ value)) (isValueOf p value)
         (λ taken. subst⁻¹ (λ (k : ℕ). Accepts 0x01 (k ∷ value) (Write p)) named (write p value taken)) (λ _. tt)
 
-reading-row : («data» : List ℕ) → Row 0x02 «data» (readAccepted «data»)
-reading-row [] = tt
-reading-row (code ∷ b ∷ more) = tt
-reading-row (code ∷ []) = of (parameterWith code) (parameter-named code)
+read-row : («data» : List ℕ) → Row 0x02 «data» (readAccepted «data»)
+read-row [] = tt
+read-row (code ∷ b ∷ more) = tt
+read-row (code ∷ []) = of (parameterWith code) (parameter-named code)
   where
     of : (k : Coded) → Named code k → Row 0x02 (code ∷ []) (readAcceptedFrom k)
     of coded.Unknown named = tt
@@ -118,8 +118,8 @@ module _ (code : ℕ) («data» : List ℕ) where
   unfolding acceptance
   by-row =
       cond-elim P (eqb code 0x00) (at-code 0x00 (bareAccepted Header «data») (bare-row 0x00 Header «data» header))
-      (λ a. cond-elim P (eqb code 0x01) (at-code 0x01 (writeAccepted «data») (writing-row «data»))
-      (λ b. cond-elim P (eqb code 0x02) (at-code 0x02 (readAccepted «data») (reading-row «data»))
+      (λ a. cond-elim P (eqb code 0x01) (at-code 0x01 (writeAccepted «data») (write-row «data»))
+      (λ b. cond-elim P (eqb code 0x02) (at-code 0x02 (readAccepted «data») (read-row «data»))
       (λ c. cond-elim P (eqb code 0x10) (at-code 0x10 (bareAccepted (Card Marin) «data») (bare-row 0x10 (Card Marin) «data» marin))
       (λ d. cond-elim P (eqb code 0x14) (at-code 0x14 (bareAccepted (Card Hid) «data») (bare-row 0x14 (Card Hid) «data» hid))
       (λ e. cond-elim P (eqb code 0x18) (at-code 0x18 (bareAccepted (Card Motorola) «data») (bare-row 0x18 (Card Motorola) «data» motorola))

@@ -7,7 +7,7 @@ use native.Mathlib.Nat.{div-div-eq-div-mul}
 use native.Mathlib.Omega.{arith}
 use lib.ListN.{length, set, length-append}
 use Rattle.ground.specs.Laying.{laid}
-use Rattle.ground.proofs.Laws.Laying.{laid-behind, laid-whole, set-behind, set-two}
+use Rattle.ground.proofs.Laws.Laying.{laid-after, laid-whole, set-after, set-two}
 use Rattle.request_spec.specs.Limits.{headerLength, nameLength}
 use Rattle.request_spec.specs.Header.{lowFirst, header}
 
@@ -15,14 +15,14 @@ pub set-four : (l : List ℕ) (at a b c d : ℕ) → at + 4 ≤ length l
     → set (set (set (set l at a) (at + 1) b) (at + 2) c) (at + 3) d ≡ laid l at (a ∷ b ∷ c ∷ d ∷ [])
 set-four l at a b c d h =
     ap (λ (m : List ℕ). set (set m (at + 2) c) (at + 3) d) (set-two l at a b (omega arith))
-    ∙ ap (λ (m : List ℕ). set m (at + 3) d) (set-behind l at (a ∷ b ∷ []) c (omega arith))
-    ∙ set-behind l at (a ∷ b ∷ c ∷ []) d (omega arith)
+    ∙ ap (λ (m : List ℕ). set m (at + 3) d) (set-after l at (a ∷ b ∷ []) c (omega arith))
+    ∙ set-after l at (a ∷ b ∷ c ∷ []) d (omega arith)
 
--- what is laid behind what stands in front stands there
-behind : {m m′ : List ℕ} (l x y : List ℕ) (at : ℕ) → m ≡ laid l 0 x → length x ≡ at → m′ ≡ laid m at y → m′ ≡ laid l 0 (x ++ y)
-behind l x y at stood here lays = lays ∙ ap₂ (λ (m : List ℕ) (n : ℕ). laid m n y) stood (sym here) ∙ laid-behind l x y
+-- what is laid after what stands in front stands there
+laid-at-end : {m m′ : List ℕ} (l x y : List ℕ) (at : ℕ) → m ≡ laid l 0 x → length x ≡ at → m′ ≡ laid m at y → m′ ≡ laid l 0 (x ++ y)
+laid-at-end l x y at stood here lays = lays ∙ ap₂ (λ (m : List ℕ) (n : ℕ). laid m n y) stood (sym here) ∙ laid-after l x y
 
--- a name and five numbers, one behind the other, are the header
+-- a name and five numbers, one after the other, are the header
 pub header-laid : {a b c d e f : List ℕ} (bytes name : List ℕ) (kind version protocol serial flags : ℕ) → length name ≡ nameLength
     → length bytes ≡ headerLength
     → a ≡ laid bytes 0 name
@@ -44,10 +44,10 @@ header-laid bytes name kind version protocol serial flags long sized named first
     let p : length withProtocol ≡ 32 = simp length-append (omega arith) in
     let s : length withSerial ≡ 36 = simp length-append (omega arith) in
     let f : length whole ≡ 40 = simp length-append (omega arith) in
-    behind bytes withSerial (lowFirst flags) 36
-    (behind bytes withProtocol (lowFirst serial) 32 (behind bytes withVersion (lowFirst protocol) 28
-    (behind bytes withKind (lowFirst version) 24
-    (behind bytes name (lowFirst kind) nameLength named long first) k second) v third)
+    laid-at-end bytes withSerial (lowFirst flags) 36
+    (laid-at-end bytes withProtocol (lowFirst serial) 32 (laid-at-end bytes withVersion (lowFirst protocol) 28
+    (laid-at-end bytes withKind (lowFirst version) 24
+    (laid-at-end bytes name (lowFirst kind) nameLength named long first) k second) v third)
     p fourth) s fifth
     ∙ laid-whole bytes whole (omega arith)
     ∙ simp append-assoc

@@ -23,7 +23,7 @@ lengthOf-most Speed = omega arith
 lengthOf-most Settings = omega arith
 lengthOf-most Cell = omega arith
 
--- a value that a parameter takes has its length, and for the speed is 3..10
+-- a parameter's value has its length, and for the speed is 3..10
 pub takes-length : (p : Parameter) (value : List ℕ) → isValueOf p value ≡ true → length value ≡ lengthOf p
 unfolding isValueOf
 takes-length p value taken =
@@ -37,13 +37,13 @@ pub value-length : {p q : Parameter} (value : List ℕ) → p ≡ q → isValueO
 value-length {p} value same taken = takes-length p value taken ∙ ap lengthOf same
 
 -- the length is tried first
-pub takes-none : {n : ℕ} (p : Parameter) (value : List ℕ) → n ≡ lengthOf p → (length value ≡ n → ⊥) → false ≡ isValueOf p value
+pub value-other : {n : ℕ} (p : Parameter) (value : List ℕ) → n ≡ lengthOf p → (length value ≡ n → ⊥) → false ≡ isValueOf p value
 unfolding isValueOf
-takes-none p value long other = rw (ne-eqb (length value) (lengthOf p) (λ e. other (e ∙ sym long)))
+value-other p value long other = rw (ne-eqb (length value) (lengthOf p) (λ e. other (e ∙ sym long)))
 
-pub takes-some : {n : ℕ} {p q : Parameter} (value : List ℕ) → p ≡ q → n ≡ lengthOf p → length value ≡ n → within q value ≡ isValueOf p value
+pub value-sized : {n : ℕ} {p q : Parameter} (value : List ℕ) → p ≡ q → n ≡ lengthOf p → length value ≡ n → within q value ≡ isValueOf p value
 unfolding isValueOf
-takes-some {p} value same long whole =
+value-sized {p} value same long whole =
     ap (λ (r : Parameter). within r value) (sym same) ∙ rw (eq-eqb (length value) (lengthOf p) (whole ∙ long))
 
 -- a code belongs to one parameter

@@ -20,7 +20,7 @@ use Rattle.tape_spec.specs.declared.tape.Tape.{Tape}
 use Rattle.tape_spec.specs.Whole.{kindOf, receiverOn, withReceiver}
 use Rattle.tape_spec.specs.Taping.{tapeOf, afterKind, isOver, Went, standing, going, ListedOut, listedTo, textWritten, badTape}
 use Rattle.tape_spec.proofs.Laws.Fine.{kind-fine, with-receiver-fine, on-fine, receivers-fine, body-permitted, tape-fine}
-use Rattle.tape_spec.proofs.Laws.Taping.{behindWent}
+use Rattle.tape_spec.proofs.Laws.Taping.{wentAfter}
 use Rattle.tape.specs.Running.{linked, laced, Run, running, Left, left, RunHeard}
 use Rattle.tape.proofs.Laws.Going.{going-over, going-full, going-kind, running-some, running-within, running-good, goes-on}
 
@@ -32,21 +32,21 @@ over out d = record { refusal = d .refusal; tape = d .tape; taken = d .taken; wr
 abbrev wrote : Tape → ℕ → Ended → ListedOut
 wrote t taken e = listedTo t taken (e .end) (e .out)
 
--- behind some bytes whose text ends here
-abbrev pub writingBehind : ℕ → Went → List ℕ → ℕ → ListedOut
-writingBehind taken w out written = wrote (w .tape) (taken + w .taken) (placed (w .text) out written)
+-- after some bytes whose text ends here
+abbrev pub writingAfter : ℕ → Went → List ℕ → ℕ → ListedOut
+writingAfter taken w out written = wrote (w .tape) (taken + w .taken) (placed (w .text) out written)
 
 pub none-taken : (t : Tape) (chunk out : List ℕ)
-    → writingBehind 0 (going (length out - 0) t (drop 0 chunk)) out 0 ≡ textWritten (going (length out) t chunk) out
+    → writingAfter 0 (going (length out - 0) t (drop 0 chunk)) out 0 ≡ textWritten (going (length out) t chunk) out
 none-taken t chunk out =
     let all : length out - 0 ≡ length out = omega arith in
     let w = going (length out) t chunk in
-    ap (λ (room : ℕ). writingBehind 0 (going room t chunk) out 0) all
+    ap (λ (room : ℕ). writingAfter 0 (going room t chunk) out 0) all
     ∙ ap₂ (λ (n k : ℕ). listedTo (w .tape) n k (laid out 0 (w .text))) (zero-add (w .taken)) (zero-add (length (w .text)))
 
 -- what was gone over is part of what was taken and written before
 writing-more : (taken k : ℕ) (text : List ℕ) (w : Went) (out : List ℕ) (written : ℕ) → written ≤ length out
-    → writingBehind (taken + k) w (laid out written text) (written + length text) ≡ writingBehind taken (behindWent k text w) out written
+    → writingAfter (taken + k) w (laid out written text) (written + length text) ≡ writingAfter taken (wentAfter k text w) out written
 writing-more taken k text w out written ends =
     ap₂ (wrote (w .tape)) (add-assoc taken k (w .taken)) (placed-more text (w .text) out written ends)
 
@@ -60,20 +60,20 @@ length-linked k [] some = absurd (omega arith)
 length-linked k (b ∷ bs) some = let h = length-laced k bs in omega arith
 
 module _ (chunk : List ℕ) (all : ListedOut) where
-  -- so many bytes were taken, and their text ends here
+  -- `taken` bytes were taken, and their text ends at `written`
   pub record Goes (out : List ℕ) (t : Tape) (taken written : ℕ) : Type 0 where
     pub part : taken ≤ length chunk
     pub few : t .records ≤ mostRecords
     pub fine : badTape t ≡ false
     pub ends : written ≤ length out
-    pub same : writingBehind taken (going (length out - written) t (drop taken chunk)) out written ≡ all
+    pub same : writingAfter taken (going (length out - written) t (drop taken chunk)) out written ≡ all
 
   module _ {out : List ℕ} {t : Tape} {taken written : ℕ} (goes : Goes out t taken written) where
     -- nothing more is taken
     stands : going (length out - written) t (drop taken chunk) ≡ standing t → listedTo t taken written out ≡ all
     stands none =
         ap₂ (wrote t) (sym (add-zero taken)) (sym (placed-nil out written))
-        ∙ ap (λ (w : Went). writingBehind taken w out written) (sym none)
+        ∙ ap (λ (w : Went). writingAfter taken w out written) (sym none)
         ∙ goes .same
 
     pub at-end : length chunk ≤ taken → listedTo t taken written out ≡ all
@@ -100,7 +100,7 @@ module _ (chunk : List ℕ) (all : ListedOut) where
           same =
               let g = going (length out - written) (tapeOf n (afterKind n k) r) (drop (taken + 1) chunk) in
               ap (λ (m : ℕ). wrote (g .tape) m (placed (g .text) out written)) (add-assoc taken 1 (g .taken))
-              ∙ ap (λ (w : Went). writingBehind taken w out written)
+              ∙ ap (λ (w : Went). writingAfter taken w out written)
               (sym (going-kind (length out - written) n r k (drop (taken + 1) chunk) fits)
               ∙ ap (going (length out - written) (tapeOf n Kind r)) (sym (drop-next chunk taken more)))
               ∙ goes .same;
@@ -145,11 +145,11 @@ module _ (chunk : List ℕ) (all : ListedOut) where
           some-heard [] some = absurd (omega arith)
           some-heard (b ∷ bs) some = running-some line (length out - written) n (receiverOn line r) b bs fits
 
-      -- behind them, in the buffer that they left
-      behind-run : Goes (laid out written (ran .text)) (tapeOf (n + ran .count) Kind (withReceiver line (ran .receiver) r))
+      -- after them, in the buffer that they left
+      after-run : Goes (laid out written (ran .text)) (tapeOf (n + ran .count) Kind (withReceiver line (ran .receiver) r))
           (taken + (2 * ran .count - 1)) (written + length (ran .text))
       unfolding ran
-      behind-run =
+      after-run =
           let c = ran .count in
           let text = ran .text in
           let t = tapeOf (n + c) Kind (withReceiver line (ran .receiver) r) in
@@ -164,11 +164,11 @@ module _ (chunk : List ℕ) (all : ListedOut) where
                 (receivers-fine (tapeOf n (Body line) r) (goes .fine))) refl;
             ends = omega (arith, within .1, goes .ends, size);
             same =
-                ap₂ (λ (m : ℕ) (l : List ℕ). writingBehind (taken + (2 * c - 1)) (going m t l) (laid out written text)
+                ap₂ (λ (m : ℕ) (l : List ℕ). writingAfter (taken + (2 * c - 1)) (going m t l) (laid out written text)
                 (written + length text))
                 left (sym (drop-drop (2 * c - 1) taken chunk))
                 ∙ writing-more taken (2 * c - 1) text g out written (goes .ends)
-                ∙ ap (λ (w : Went). writingBehind taken w out written)
+                ∙ ap (λ (w : Went). writingAfter taken w out written)
                 (sym (goes-on line (length out - written) n r (drop taken chunk) (heard .bodies) fits (permitted goes) (heard .gathered)))
                 ∙ goes .same;
           }
@@ -180,7 +180,7 @@ module _ (chunk : List ℕ) (all : ListedOut) where
       next-run =
           subst⁻¹ (λ (a : Left). Goes (a .out) (tapeOf (n + a .count) Kind (withReceiver line (a .receiver) r)) (taken + (2 * a .count - 1))
           (a .end))
-          (heard .ran) behind-run
+          (heard .ran) after-run
 
       pub run-some : 1 ≤ after .count
       unfolding ran

@@ -23,10 +23,10 @@ use Rattle.tape_spec.specs.declared.tape.Receivers.{Receivers}
 use Rattle.tape_spec.specs.declared.tape.Tape.{Tape}
 use Rattle.tape_spec.specs.Whole.{kindOf, receiverOn, withReceiver}
 use Rattle.tape_spec.specs.Taping.{tapeOf, afterKind, advance, isOver, Went, standing, going}
-use Rattle.tape_spec.proofs.Laws.Taping.{behindWent, going-step, heard-row-within}
+use Rattle.tape_spec.proofs.Laws.Taping.{wentAfter, going-step, heard-row-within}
 use Rattle.tape_spec.proofs.Laws.Whole.{kind-known}
 use Rattle.tape.specs.Running.{laced, Gathered, Run, resting, running}
-use Rattle.tape.proofs.Laws.Running.{behindRun, running-step, running-full}
+use Rattle.tape.proofs.Laws.Running.{runAfter, running-step, running-full}
 
 -- ---- where it stops, and a kind byte
 
@@ -40,13 +40,13 @@ unfolding going
 going-full room t [] h = refl
 going-full room t (b ∷ bs) h = rw (lt-ltb room leastRoom h, or-true)
 
--- a kind byte brings nothing
+-- a kind byte has no text
 pub going-kind : (room n : ℕ) (r : Receivers) (k : ℕ) (l : List ℕ) → leastRoom ≤ room
-    → going room (tapeOf n Kind r) (k ∷ l) ≡ behindWent 1 [] (going room (tapeOf n (afterKind n k) r) l)
+    → going room (tapeOf n Kind r) (k ∷ l) ≡ wentAfter 1 [] (going room (tapeOf n (afterKind n k) r) l)
 unfolding advance
 going-kind room n r k l h =
     let all : room - 0 ≡ room = omega arith in
-    going-step room (tapeOf n Kind r) k l refl h ∙ ap (λ (m : ℕ). behindWent 1 [] (going m (tapeOf n (afterKind n k) r) l)) all
+    going-step room (tapeOf n Kind r) k l refl h ∙ ap (λ (m : ℕ). wentAfter 1 [] (going m (tapeOf n (afterKind n k) r) l)) all
 
 -- ---- bodies in a row
 
@@ -58,7 +58,7 @@ with-receiver-with-receiver : (line : Line) (s u : Receiver) (r : Receivers) →
 with-receiver-with-receiver Point s u r = refl
 with-receiver-with-receiver Addressed s u r = refl
 
--- behind the kind of a permitted record comes its body
+-- after the kind of a permitted record comes its body
 body-next : (line : Line) (n : ℕ) → n < mostRecords → afterKind n (kindOf line) ≡ Body line
 unfolding afterKind
 body-next line n h = rw (ne-eqb n mostRecords (λ e. absurd (omega arith)), kind-known line)
@@ -71,7 +71,7 @@ module _ (line : Line) where
   -- where a call stands that went over bodies at the front of what was left
   abbrev pub wentOn : ℕ → ℕ → Receivers → List ℕ → Run → Went
   wentOn room n r l w =
-      behindWent (2 * w .count - 1) (w .text)
+      wentAfter (2 * w .count - 1) (w .text)
       (going (room - length (w .text)) (tapeOf (n + w .count) Kind (withReceiver line (w .receiver) r)) (drop (2 * w .count - 1) l))
 
   abbrev Goes : ℕ → ℕ → Receivers → ℕ → List ℕ → List ℕ → Type 0
@@ -88,8 +88,8 @@ module _ (line : Line) where
 
     -- the first body and its kind's next are together what was gone over
     joined : (room : ℕ) (w : Run) (k : ℕ) (l : List ℕ) → 1 ≤ w .count
-        → behindWent 1 text (behindWent 1 [] (wentOn (room - length text) (n + 1) (withReceiver line s r) l w))
-        ≡ wentOn room n r (b ∷ k ∷ l) (behindRun 1 text w)
+        → wentAfter 1 text (wentAfter 1 [] (wentOn (room - length text) (n + 1) (withReceiver line s r) l w))
+        ≡ wentOn room n r (b ∷ k ∷ l) (runAfter 1 text w)
     joined room w k l some =
         let c = w .count in
         let u = w .receiver in
@@ -111,7 +111,7 @@ module _ (line : Line) where
       -- the first body
       first : (l : List ℕ)
           → going room (tapeOf n (Body line) r) (b ∷ l)
-          ≡ behindWent 1 text (going (room - length text) (tapeOf (n + 1) Kind (withReceiver line s r)) l)
+          ≡ wentAfter 1 text (going (room - length text) (tapeOf (n + 1) Kind (withReceiver line s r)) l)
       unfolding advance
       first l = going-step room (tapeOf n (Body line) r) b l refl h
 
@@ -120,11 +120,11 @@ module _ (line : Line) where
           → Goes room n r b bs rest
       goes-one bs rest none =
           first (laced (kindOf line) bs ++ rest)
-          ∙ ap (λ (t : List ℕ). behindWent 1 t
+          ∙ ap (λ (t : List ℕ). wentAfter 1 t
           (going (room - length t) (tapeOf (n + 1) Kind (withReceiver line s r)) (laced (kindOf line) bs ++ rest)))
           (sym (append-nil text))
           ∙ ap (wentOn room n r (b ∷ (laced (kindOf line) bs ++ rest)))
-          (sym (running-step line room n (receiverOn line r) b bs h ∙ ap (behindRun 1 text) none))
+          (sym (running-step line room n (receiverOn line r) b bs h ∙ ap (runAfter 1 text) none))
 
       goes-more : (c : ℕ) (bs rest : List ℕ) → leastRoom ≤ room - length text → n + 1 < mostRecords
           → Goes (room - length text) (n + 1) (withReceiver line s r) c bs rest
@@ -135,11 +135,11 @@ module _ (line : Line) where
           let l = c ∷ (laced k bs ++ rest) in
           let m = room - length text in
           first (k ∷ l)
-          ∙ ap (behindWent 1 text)
+          ∙ ap (wentAfter 1 text)
           (going-kind m (n + 1) (withReceiver line s r) k l more
-          ∙ ap (behindWent 1 []) (ap (λ (x : Next). going m (tapeOf (n + 1) x (withReceiver line s r)) l) (body-next line (n + 1) few) ∙ others))
-          ∙ ap (λ (x : Receiver). behindWent 1 text
-          (behindWent 1 [] (wentOn m (n + 1) (withReceiver line s r) l (running m line (n + 1) x (c ∷ bs)))))
+          ∙ ap (wentAfter 1 []) (ap (λ (x : Next). going m (tapeOf (n + 1) x (withReceiver line s r)) l) (body-next line (n + 1) few) ∙ others))
+          ∙ ap (λ (x : Receiver). wentAfter 1 text
+          (wentAfter 1 [] (wentOn m (n + 1) (withReceiver line s r) l (running m line (n + 1) x (c ∷ bs)))))
           (on-with-receiver line s r)
           ∙ joined room (running m line (n + 1) s (c ∷ bs)) k l (running-some line m (n + 1) s c bs more)
           ∙ ap (wentOn room n r (b ∷ k ∷ l)) (sym (running-step line room n (receiverOn line r) b (c ∷ bs) h))

@@ -20,24 +20,24 @@ use Rattle.tape_spec.proofs.Laws.Taping.{heard-row-within}
 use Rattle.tape.specs.Running.{Run, resting, running, Left, runLeft}
 use Rattle.tape.proofs.Laws.Running.{callText, Hears, running-full, running-piece}
 
--- a result with where its lines end and what they left
+-- a result with where its rows end and what they left
 abbrev leftBy : Receiver → ℕ → Ended → Left
 leftBy s count e = record { receiver = s; count = count; end = e .end; out = e .out }
 
--- behind some bodies whose lines end here
-abbrev pub leavingBehind : ℕ → Run → List ℕ → ℕ → Left
-leavingBehind count w out end = leftBy (w .receiver) (count + w .count) (placed (w .text) out end)
+-- after some bodies whose rows end here
+abbrev pub leavingAfter : ℕ → Run → List ℕ → ℕ → Left
+leavingAfter count w out end = leftBy (w .receiver) (count + w .count) (placed (w .text) out end)
 
-pub none-before : (w : Run) (out : List ℕ) (end : ℕ) → leavingBehind 0 w out end ≡ runLeft w out end
+pub none-before : (w : Run) (out : List ℕ) (end : ℕ) → leavingAfter 0 w out end ≡ runLeft w out end
 none-before w out end = ap (λ (k : ℕ). leftBy (w .receiver) k (placed (w .text) out end)) (zero-add (w .count))
 
 module _ (line : Line) (records : ℕ) (bodies : List ℕ) (all : Left) where
-  -- so many bodies were heard, and their lines end here
+  -- `count` bodies were heard, and their rows end at `end`
   pub record Goes (out : List ℕ) (s : Receiver) (count end : ℕ) : Type 0 where
     pub part : count ≤ length bodies
     pub good : badReceiver s ≡ false
     pub ends : end ≤ length out
-    pub same : leavingBehind count (running (length out - end) line (records + count) s (drop count bodies)) out end ≡ all
+    pub same : leavingAfter count (running (length out - end) line (records + count) s (drop count bodies)) out end ≡ all
 
   module _ {out : List ℕ} {s : Receiver} {count end : ℕ} (goes : Goes out s count end) where
     abbrev here : Left
@@ -47,7 +47,7 @@ module _ (line : Line) (records : ℕ) (bodies : List ℕ) (all : Left) where
     stands : running (length out - end) line (records + count) s (drop count bodies) ≡ resting s → here ≡ all
     stands none =
         ap₂ (leftBy s) (sym (add-zero count)) (sym (placed-nil out end))
-        ∙ ap (λ (w : Run). leavingBehind count w out end) (sym none)
+        ∙ ap (λ (w : Run). leavingAfter count w out end) (sym none)
         ∙ goes .same
 
     pub out-of-room : length out - end < leastRoom → here ≡ all
@@ -64,7 +64,7 @@ module _ (line : Line) (records : ℕ) (bodies : List ℕ) (all : Left) where
     pub takes-most : count + received s (drop count bodies) .taken ≤ length bodies
     takes-most = omega (arith, received-takes s (drop count bodies) (goes .good) .most, length-drop count bodies, goes .part)
 
-    -- and the line that it brought
+    -- and the row that it puts
     module _ (few : records + length bodies ≤ mostRecords) (fits : leastRoom ≤ length out - end) where
       abbrev left : List ℕ
       left = drop count bodies
@@ -80,16 +80,16 @@ module _ (line : Line) (records : ℕ) (bodies : List ℕ) (all : Left) where
           let n : records + count + (said .taken - 1) ≤ mostRecords = omega (arith, takes-most) in
           omega (arith, heard-row-within (records + count + (said .taken - 1)) line s left n)
 
-      -- what is left behind it, in the buffer that it left
+      -- what is left after it, in the buffer that it left
       rest-same : let w =
           running (length out - end - length text) line (records + count + said .taken) (said .receiver) (drop (said .taken) left) in
-          leavingBehind (count + said .taken) w (laid out end text) (end + length text)
-          ≡ leavingBehind count (running (length out - end) line (records + count) s left) out end
+          leavingAfter (count + said .taken) w (laid out end text) (end + length text)
+          ≡ leavingAfter count (running (length out - end) line (records + count) s left) out end
       unfolding Hears
       rest-same =
           let w = running (length out - end - length text) line (records + count + said .taken) (said .receiver) (drop (said .taken) left) in
           ap₂ (leftBy (w .receiver)) (add-assoc count (said .taken) (w .count)) (placed-more text (w .text) out end (goes .ends))
-          ∙ ap (λ (v : Run). leavingBehind count v out end)
+          ∙ ap (λ (v : Run). leavingAfter count v out end)
           (sym (running-piece line left (length out - end) (records + count) s (goes .good) fits))
 
       pub next-call : (r : Placed) (o : List ℕ) → ended r o ≡ placed text out end
@@ -98,14 +98,14 @@ module _ (line : Line) (records : ℕ) (bodies : List ℕ) (all : Left) where
           let size : length (laid out end text) ≡ length out = length-laid out end text (omega (arith, text-fits, goes .ends)) in
           let room : length (laid out end text) - (end + length text) ≡ length out - end - length text = omega arith in
           let far : records + (count + said .taken) ≡ records + count + said .taken = omega arith in
-          let receiverOn : drop (count + said .taken) bodies ≡ drop (said .taken) left = sym (drop-drop (said .taken) count bodies) in
+          let rest : drop (count + said .taken) bodies ≡ drop (said .taken) left = sym (drop-drop (said .taken) count bodies) in
           subst⁻¹ (λ (e : Ended). Goes (e .out) (said .receiver) (count + said .taken) (e .end)) puts
           (record {
             part = takes-most;
             good = stays-good s left (goes .good);
             ends = omega (arith, text-fits, goes .ends);
             same =
-                (λ i. leavingBehind (count + said .taken) (running (room i) line (far i) (said .receiver) (receiverOn i)) (laid out end text)
+                (λ i. leavingAfter (count + said .taken) (running (room i) line (far i) (said .receiver) (rest i)) (laid out end text)
                 (end + length text))
                 ∙ rest-same
                 ∙ goes .same;

@@ -67,23 +67,23 @@ gathered kind most chunk piece count some few fits front =
 
 -- ---- hearing
 
--- behind some bodies that brought a text
-abbrev pub behindRun : ℕ → List ℕ → Run → Run
-behindRun count text w = record { receiver = w .receiver; count = count + w .count; text = text ++ w .text }
+-- after some bodies with their text
+abbrev pub runAfter : ℕ → List ℕ → Run → Run
+runAfter count text w = record { receiver = w .receiver; count = count + w .count; text = text ++ w .text }
 
 none-quiet : (s : Receiver) → badReceiver s ≡ false → (bs : List ℕ) → received s bs .taken ≡ 0 → happened (received s bs .event) ≡ false
 none-quiet s good [] e = ap happened (empty-piece s .1)
 none-quiet s good (b ∷ bs) e = absurd (let t = received-takes s (b ∷ bs) good .some (omega arith) in omega arith)
 
 module _ (line : Line) where
-  -- the text that a call brings which began behind so many records: its event is at the last byte taken
+  -- the text of a call that began after n records: its event is at the last byte taken
   abbrev pub callText : ℕ → Said → List ℕ
   callText n said = heardRow (n + (said .taken - 1)) line said
 
   -- one body, where there is room
   pub running-step : (room n : ℕ) (s : Receiver) (b : ℕ) (bs : List ℕ) → leastRoom ≤ room
       → let said = received s (b ∷ []) in let text = heardRow n line said in
-      running room line n s (b ∷ bs) ≡ behindRun 1 text (running (room - length text) line (n + 1) (said .receiver) bs)
+      running room line n s (b ∷ bs) ≡ runAfter 1 text (running (room - length text) line (n + 1) (said .receiver) bs)
   unfolding running
   running-step room n s b bs h = rw (le-ltb room leastRoom h)
 
@@ -97,7 +97,7 @@ module _ (line : Line) where
   unfoldable pub Hears : ℕ → ℕ → Receiver → List ℕ → Said → Type 0
   Hears room n s bodies said =
       running room line n s bodies
-      ≡ behindRun (said .taken) (callText n said)
+      ≡ runAfter (said .taken) (callText n said)
       (running (room - length (callText n said)) line (n + said .taken) (said .receiver) (drop (said .taken) bodies))
 
   -- an event at the first body
@@ -116,7 +116,7 @@ module _ (line : Line) where
           ∙ sym (no-row (n + 1 + (said .taken - 1)) line said (some e))
       go (suc k) e = ap (λ (i : ℕ). heardRow i line said) (omega arith)
 
-  -- none there, and the others are heard behind it
+  -- none there, and the others are heard after it
   hears-later : (room n : ℕ) (s : Receiver) (b : ℕ) (bs : List ℕ) (said : Said) → leastRoom ≤ room
       → happened (received s (b ∷ []) .event) ≡ false
       → (said .taken ≡ 0 → happened (said .event) ≡ false)
@@ -129,14 +129,14 @@ module _ (line : Line) where
       let all : room - 0 ≡ room = omega arith in
       let m = running (room - length (callText (n + 1) said)) line (n + 1 + k) (said .receiver) (drop k bs) in
       running-step room n s b bs h
-      ∙ ap (λ (t : List ℕ). behindRun 1 t (running (room - length t) line (n + 1) (one .receiver) bs))
+      ∙ ap (λ (t : List ℕ). runAfter 1 t (running (room - length t) line (n + 1) (one .receiver) bs))
       (no-row n line one quiet)
-      ∙ ap (behindRun 1 []) (ap (λ (r : ℕ). running r line (n + 1) (one .receiver) bs) all ∙ rest)
+      ∙ ap (runAfter 1 []) (ap (λ (r : ℕ). running r line (n + 1) (one .receiver) bs) all ∙ rest)
       ∙ ap (λ (c : ℕ). record { receiver = m .receiver; count = c; text = callText (n + 1) said ++ m .text }) (omega arith)
       ∙ ap₂
-      (λ (t : List ℕ) (i : ℕ). behindRun (k + 1) t (running (room - length t) line i (said .receiver) (drop k bs)))
+      (λ (t : List ℕ) (i : ℕ). runAfter (k + 1) t (running (room - length t) line i (said .receiver) (drop k bs)))
       (sym (same-text n said some)) (omega arith)
-      ∙ ap (λ (l : List ℕ). behindRun (k + 1) (callText n (later said))
+      ∙ ap (λ (l : List ℕ). runAfter (k + 1) (callText n (later said))
       (running (room - length (callText n (later said))) line (n + (k + 1)) (said .receiver) l))
       (ap (λ (j : ℕ). drop j (b ∷ bs)) (sym (add-one k)))
 

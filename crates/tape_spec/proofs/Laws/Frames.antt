@@ -1,4 +1,4 @@
--- The FRAME lines of a listing are exactly those of the frames whose complete wire image stands in what was heard on their line.
+-- The FRAME rows of a listing are exactly those of the frames whose complete wire image stands in what was heard on their line.
 -- Assumes nothing.
 use mathlib.Core.Path.{_≡_, refl, sym, ap, subst⁻¹, _∙_}
 use mathlib.Core.Logic.{⊎-elim}
@@ -48,7 +48,7 @@ rise-entries (heardOn line b ∷ rs) n r =
 abbrev toldOf : ℕ → Said → List Told
 toldOf place said = note place (said .event) (carried said)
 
--- what bytes tell that are handed over one by one, from behind a place on
+-- what the bytes after a place tell that are handed over one by one
 unfoldable told : ℕ → Receiver → List ℕ → List Told
 told p s [] = []
 told p s (b ∷ bs) =
@@ -72,18 +72,18 @@ told-lists line stream =
     let f = fresh-on line in
     hearing-lists f (hears stream stream 0 (receiverOn line freshReceivers) (fresh-good f) refl)
 
--- ---- the FRAME entries of a side are the FRAMEs that its bytes tell
+-- ---- the FRAME entries of a line are the FRAMEs that its bytes tell
 
 module _ (records : List Record) (line : Line) where
-  -- before these stand so many records, and among them so many of this side
-  record Behind (n p : ℕ) (rs : List Record) : Type 0 where
+  -- before these records stand n others, and among them p of this line
+  record After (n p : ℕ) (rs : List Record) : Type 0 where
     done : List Record
     split : records ≡ done ++ rs
     numbered : n ≡ length done
     placed : p ≡ length (bytesOn line done)
 
-  behind-carries : {n p b : ℕ} {rs : List Record} → Behind n p (heardOn line b ∷ rs) → HasByte records n line (p + 1)
-  behind-carries {b} {rs} h =
+  after-has : {n p b : ℕ} {rs : List Record} → After n p (heardOn line b ∷ rs) → HasByte records n line (p + 1)
+  after-has {b} {rs} h =
       record { before = h .done; byte = b; after = rs; split = h .split; numbered = h .numbered; placed = ap (_+ 1) (h .placed) }
 
   length-bytes : (done : List Record) (x : Record)
@@ -94,9 +94,9 @@ module _ (records : List Record) (line : Line) where
       let d-bytes = byteOn line d in
       omega (arith, length-append d-bytes (bytesOn line (done ++ (x ∷ []))), length-append d-bytes (bytesOn line done), length-bytes done x)
 
-  behind-next : {n p : ℕ} {x : Record} {rs : List Record} (q : ℕ) → q ≡ p + length (byteOn line x) → Behind n p (x ∷ rs)
-      → Behind (n + 1) q rs
-  behind-next {x} {rs} q e h =
+  after-next : {n p : ℕ} {x : Record} {rs : List Record} (q : ℕ) → q ≡ p + length (byteOn line x) → After n p (x ∷ rs)
+      → After (n + 1) q rs
+  after-next {x} {rs} q e h =
       record {
         done = h .done ++ (x ∷ []);
         split = h .split ∙ sym (append-assoc (h .done) (x ∷ []) rs);
@@ -105,7 +105,7 @@ module _ (records : List Record) (line : Line) where
       }
 
   module _ (front : List ℕ) where
-    -- a FRAME with this content is among the entries of this side exactly where it is told, at the same record
+    -- a FRAME with this content is among the entries of this line exactly where it is told, at the same record
     record Matches (es : List Entry) (ts : List Told) : Type 0 where
       each : (place : ℕ) → List·Memᴰ (toldAt place FRAME front) ts
           → (number : ℕ) × HasByte records number line place × List·Memᴰ (entry number line FRAME front) es
@@ -138,7 +138,7 @@ module _ (records : List Record) (line : Line) where
               (List·Memᴰ·cases-cons m);
         }
 
-    -- one more record of this side
+    -- one more record of this line
     match-same : {es : List Entry} {ts : List Told} (n p : ℕ) (said : Said) → HasByte records n line (p + 1) → Matches es ts
         → Matches (entryOf n line said ++ es) (toldOf (p + 1) said ++ ts)
     unfolding entryOf
@@ -147,7 +147,7 @@ module _ (records : List Record) (line : Line) where
         (λ t. rw (note-some (p + 1) (said .event) (carried said) t) (match-more n p (said .event) (carried said) here rest))
         (λ f. rw (note-none (p + 1) (said .event) (carried said) f) rest)
 
-    -- one more of the other
+    -- one more of the other line
     match-other : {es : List Entry} {ts : List Told} (n : ℕ) (other : Line) (said : Said) → (line ≡ other → ⊥) → Matches es ts
         → Matches (entryOf n other said ++ es) ts
     unfolding entryOf
@@ -163,26 +163,26 @@ apart : Point ≡ Addressed → ⊥
 apart e = let z : _≡_ {A = ℕ} 0 1 = cc in omega arith
 
 module _ (records : List Record) (front : List ℕ) where
-  matches : (line : Line) (rs : List Record) (n p : ℕ) (r : Receivers) → Behind records line n p rs
+  matches : (line : Line) (rs : List Record) (n p : ℕ) (r : Receivers) → After records line n p rs
       → Matches records line front (entries n r rs) (told p (receiverOn line r) (bytesOn line rs))
   unfolding entries bytesOn told
   matches line [] n p r h = match-none records line front
   matches Point (heardOn Point b ∷ rs) n p r h =
       let said = received (r .point) (b ∷ []) in
-      match-same records Point front n p said (behind-carries records Point h)
-      (matches Point rs (n + 1) (p + 1) (withReceiver Point (said .receiver) r) (behind-next records Point (p + 1) (omega arith) h))
+      match-same records Point front n p said (after-has records Point h)
+      (matches Point rs (n + 1) (p + 1) (withReceiver Point (said .receiver) r) (after-next records Point (p + 1) (omega arith) h))
   matches Point (heardOn Addressed b ∷ rs) n p r h =
       let said = received (r .addressed) (b ∷ []) in
       match-other records Point front n Addressed said apart
-      (matches Point rs (n + 1) p (withReceiver Addressed (said .receiver) r) (behind-next records Point p (omega arith) h))
+      (matches Point rs (n + 1) p (withReceiver Addressed (said .receiver) r) (after-next records Point p (omega arith) h))
   matches Addressed (heardOn Point b ∷ rs) n p r h =
       let said = received (r .point) (b ∷ []) in
       match-other records Addressed front n Point said (λ e. apart (sym e))
-      (matches Addressed rs (n + 1) p (withReceiver Point (said .receiver) r) (behind-next records Addressed p (omega arith) h))
+      (matches Addressed rs (n + 1) p (withReceiver Point (said .receiver) r) (after-next records Addressed p (omega arith) h))
   matches Addressed (heardOn Addressed b ∷ rs) n p r h =
       let said = received (r .addressed) (b ∷ []) in
-      match-same records Addressed front n p said (behind-carries records Addressed h)
-      (matches Addressed rs (n + 1) (p + 1) (withReceiver Addressed (said .receiver) r) (behind-next records Addressed (p + 1) (omega arith) h))
+      match-same records Addressed front n p said (after-has records Addressed h)
+      (matches Addressed rs (n + 1) (p + 1) (withReceiver Addressed (said .receiver) r) (after-next records Addressed (p + 1) (omega arith) h))
 
 -- ---- demand 3
 

@@ -1,4 +1,4 @@
--- What is left of a tape brings the same text, however much of it a call takes; and from the start it is the listing.
+-- What is left of a tape has the same text, however much of it a call takes; and from the start it is the listing.
 -- Assumes nothing.
 use mathlib.Core.Path.{_≡_, refl, sym, ap, _∙_}
 use mathlib.Core.Bool.{Bool, true, false, cond, false≢true}
@@ -26,7 +26,7 @@ use Rattle.tape_spec.specs.Whole as whole
 use Rattle.tape_spec.specs.Taping.{tapeOf, awaited, afterKind, advance, advanced, quiet, isOver, Went, going, ending, lastRowOf}
 use Rattle.tape_spec.proofs.Laws.Taping.{going-elim}
 
--- the text that is to come, the last line with it
+-- the text that is to come, the last row with it
 unfoldable pub remaining : Tape → List ℕ → List ℕ
 remaining t [] = lastRowOf t
 remaining t (b ∷ bs) = advanced t b .text ++ remaining (advanced t b .tape) bs
@@ -53,7 +53,7 @@ going-remains chunk rest room t =
     (λ (n : ℕ) (u : Tape) (l : List ℕ) (g : Went). remaining u (l ++ rest) ≡ g .text ++ remaining (g .tape) (drop (g .taken) (l ++ rest)))
     (λ n u l. refl) (λ n u b bs m more roomy same. step-remains u b (bs ++ rest) m same) chunk room t
 
--- behind the last byte that is read only the last line is left
+-- after the last byte that is read only the last row is left
 over-step : (next : Next) (t : Tape) (b : ℕ) → isOver next ≡ true → advance next t b ≡ quiet t
 unfolding advance
 over-step Kind t b e = absurd (false≢true e)
@@ -68,11 +68,11 @@ over-remains (b ∷ bs) t over = rw (over-step (t .next) t b over) (over-remains
 
 -- ---- from the start on it is the listing
 
--- the text of records, and the last line
+-- the text of records, and the last row
 abbrev text : ℕ → Receivers → Parts → List ℕ
 text n r p = eventRows n r (p .records) ++ lastRow (p .ending) (n + length (p .records))
 
--- a record's line, and those of the others
+-- a record's row, and those of the others
 entry-rows : (n : ℕ) (line : Line) (said : Said) (es : List Entry)
     → heardRow n line said ++ entryRows es ≡ entryRows (entryOf n line said ++ es)
 unfolding entryOf entryRows
@@ -110,7 +110,7 @@ record-remains n r line b bs same =
     ∙ ap (λ (l : List ℕ). l ++ lastRow (p .ending) (n + suc (length (p .records))))
     (entry-rows n line said (entries (n + 1) u (p .records)))
 
--- a kind and a byte behind it
+-- a kind and a byte after it
 kind-remains : (n : ℕ) (r : Receivers) (k b : ℕ) (bs : List ℕ)
     → ((u : Receivers) → remaining (tapeOf (n + 1) Kind u) bs ≡ text (n + 1) u (parts (n + 1) bs))
     → remaining (tapeOf n (afterKind n k) r) (b ∷ bs) ≡ text n r (parts n (k ∷ b ∷ bs))

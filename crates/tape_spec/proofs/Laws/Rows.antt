@@ -1,4 +1,4 @@
--- The longest line has room in the stated least room; which line an event has.
+-- The longest row has room in the stated least room; which row an event has.
 -- Assumes nothing.
 use mathlib.Core.Path.{_≡_, refl}
 use mathlib.Core.Bool.{false, true≢false}
@@ -61,7 +61,7 @@ event-within n line LONG content few fits = row-within n line (nameOf LONG) [] f
 event-within n line PAIR content few fits = row-within n line (nameOf PAIR) [] few (length-name PAIR) zero-le
 event-within n line ADDR content few fits = row-within n line (nameOf ADDR) [] few (length-name ADDR) zero-le
 
--- and the longest last line in its places
+-- and the longest last row in its places
 pub last-within : (e : Ending) (n : ℕ) → n ≤ mostRecords → length (lastRow e n) ≤ mostLast
 unfolding lastRow ascii
 last-within e n few =
@@ -69,12 +69,12 @@ last-within e n few =
     let d = length-decimal n few in
     simp length-append (omega arith)
 
--- the header line has room too
+-- the header row has room too
 pub header-within : length headerRow ≤ leastRoom
 unfolding headerRow ascii
 header-within = omega arith
 
--- ---- which line an event has
+-- ---- which row an event has
 
 -- none where nothing happened
 pub no-row : (n : ℕ) (line : Line) (said : Said) → happened (said .event) ≡ false → heardRow n line said ≡ []

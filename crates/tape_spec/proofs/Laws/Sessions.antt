@@ -30,7 +30,7 @@ use Rattle.tape_spec.proofs.Laws.Frames.{frames-shown}
 
 -- ---- what is written
 
--- a call that was not refused wrote the whole line
+-- a call that was not refused wrote the whole row
 written-row : {row text : List ℕ} → RowWritten row text → text ≡ row
 written-row {row} {text} w = go (decLe (length row) (length (w .out) - 0))
   where
@@ -76,9 +76,9 @@ module _ (bytes : List ℕ) where
       ∙ subst⁻¹ (Continues t before) says (call-continues t before chunk rest out continues)
 
 -- the theorem: whatever the chunks and the buffers were, the text is the listing of the whole tape
-pub listing-told : {bytes text : List ℕ} → Listing bytes text → text ≡ listing bytes
+pub listing-is : {bytes text : List ℕ} → Listing bytes text → text ≡ listing bytes
 unfolding listing
-listing-told {bytes} (begun header fresh session) =
+listing-is {bytes} (begun header fresh session) =
     let p = parts 0 bytes in
     ap₂ _++_ (written-row header)
     (session-remains bytes session
@@ -86,16 +86,16 @@ listing-told {bytes} (begun header fresh session) =
     ∙ remaining-listed bytes 0 freshReceivers
     ∙ ap (λ (n : ℕ). eventRows 0 freshReceivers (p .records) ++ lastRow (p .ending) n) (zero-add (length (p .records))))
 
--- so its lines are the entries', and the FRAMEs among these exactly the frames that stand in what was heard on their line
+-- so its rows are the entries', and the FRAMEs among these exactly the frames that stand in what was heard on their line
 pub listing-shows : {bytes text : List ℕ} → Listing bytes text
     → let p = parts 0 bytes in let all = entries 0 freshReceivers (p .records) in
     (text ≡ headerRow ++ (entryRows all ++ lastRow (p .ending) (length (p .records)))) × Shows (p .records) all
 unfolding listing
-listing-shows {bytes} l = (listing-told l, frames-shown (parts 0 bytes .records))
+listing-shows {bytes} l = (listing-is l, frames-shown (parts 0 bytes .records))
 
 -- ---- a session of every tape
 
--- a buffer as long as the line takes it
+-- a buffer as long as the row takes it
 row-written : (row : List ℕ) → RowWritten row row
 row-written row =
     let out : List ℕ = replicate (length row) 0 in

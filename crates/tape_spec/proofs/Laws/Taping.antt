@@ -76,7 +76,7 @@ module _ (P : ℕ → Tape → List ℕ → Went → Type 0)
 
 -- ---- what it takes and writes has room
 
--- the line of a call has room where the longest has
+-- the row of a call has room where the longest has
 pub heard-row-within : (n : ℕ) (line : Line) (s : Receiver) (piece : List ℕ) → n ≤ mostRecords
     → length (heardRow n line (received s piece)) ≤ leastRoom
 heard-row-within n line s piece few =
@@ -84,7 +84,7 @@ heard-row-within n line s piece few =
     event-within n line (said .event) (carried said) (omega arith)
     (omega (arith, length-take (said .length) (said .content), length-within s piece))
 
--- a byte counts one record at most, and none behind the last permitted
+-- a byte counts one record at most, and none after the last permitted
 step-few : (next : Next) (t : Tape) (b : ℕ) → t .next ≡ next → badTape t ≡ false → t .records ≤ mostRecords
     → (advance next t b .tape .records ≤ mostRecords) × (length (advance next t b .text) ≤ leastRoom)
 unfolding advance
@@ -119,14 +119,14 @@ listed-within t chunk out few =
 
 -- ---- it takes something
 
--- behind some bytes that brought a text
-abbrev pub behindWent : ℕ → List ℕ → Went → Went
-behindWent taken text w = record { tape = w .tape; taken = taken + w .taken; text = text ++ w .text }
+-- after some bytes with their text
+abbrev pub wentAfter : ℕ → List ℕ → Went → Went
+wentAfter taken text w = record { tape = w .tape; taken = taken + w .taken; text = text ++ w .text }
 
 -- one byte, where there is room and something further is read
 pub going-step : (room : ℕ) (t : Tape) (b : ℕ) (bs : List ℕ) → isOver (t .next) ≡ false → leastRoom ≤ room
     → let s = advanced t b in
-    going room t (b ∷ bs) ≡ behindWent 1 (s .text) (going (room - length (s .text)) (s .tape) bs)
+    going room t (b ∷ bs) ≡ wentAfter 1 (s .text) (going (room - length (s .text)) (s .tape) bs)
 unfolding going
 going-step room t b bs more h = rw (more, le-ltb room leastRoom h)
 

@@ -9,8 +9,8 @@ use Rattle.ground.proofs.Laws.Unique.{same}
 use Rattle.tape_spec.specs.declared.tape.Listed.{Listed}
 use Rattle.tape_spec.specs.Taping.{ListedOut, listedOut}
 
-pub same-told : {r s : Listed} {o p : List ℕ} {t : ListedOut} → listedOut r o ≡ t → listedOut s p ≡ t → (r ≡ s) × (o ≡ p)
-same-told {r} {s} {o} {p} d f =
+pub same-listed : {r s : Listed} {o p : List ℕ} {t : ListedOut} → listedOut r o ≡ t → listedOut s p ≡ t → (r ≡ s) × (o ≡ p)
+same-listed {r} {s} {o} {p} d f =
     let e : listedOut r o ≡ listedOut s p = same d f in
     let why = number-injective (r .refusal) (s .refusal) (ap (λ (a : ListedOut). a .refusal) e) in
     (λ i. record { refusal = why i; tape = e i .tape; taken = e i .taken; written = e i .written }, λ i. e i .out)

@@ -1,4 +1,4 @@
--- The records of a tape: those that were taped, so many as a tape may hold.
+-- The records of a tape: those that were taped, up to the number that a tape may hold.
 -- Assumes nothing.
 use mathlib.Core.Path.{_≡_, refl, sym, ap, _∙_}
 use mathlib.Core.Bool.{Bool, true, false, cond}
@@ -24,7 +24,7 @@ kind-known Addressed = refl
 abbrev pub joined : List Record → Parts → Parts
 joined rs p = record { records = rs ++ p .records; ending = p .ending }
 
--- permitted records that were taped are read back, and what is behind them is read behind them
+-- permitted records that were taped are read back, and what follows them is read after them
 pub parts-taped : (rs : List Record) (n : ℕ) (rest : List ℕ) → n + length rs ≤ mostRecords
     → parts n (taped rs ++ rest) ≡ joined rs (parts (n + length rs) rest)
 unfolding parts taped

@@ -50,7 +50,7 @@ unfolding value
 value-last before [] d = refl
 value-last before (e ∷ ds) d = value-last (before * 10 + (e - digit 0)) ds d
 
--- the numbers below this one have so many digits at most
+-- the numbers below this one have at most this many digits
 unfoldable tens : ℕ → ℕ
 tens zero = 1
 tens (suc k) = 10 * tens k

@@ -8,7 +8,7 @@ use lib.ListN.{length, take, length-append}
 use Rattle.ground.specs.declared.refusal.Refusal.the-variants.{TooLong}
 use Rattle.ground.specs.Refusals.{Keeps}
 use Rattle.ground.specs.Laying.{laid}
-use Rattle.ground.proofs.Laws.Laying.{take-front, laid-behind}
+use Rattle.ground.proofs.Laws.Laying.{take-front, laid-after}
 use Rattle.checks.specs.declared.kind.Check.{Check}
 use Rattle.checks.specs.Check.{checkOf, checkLength, withCheck}
 use Rattle.checks.proofs.Laws.Check.{length-withCheck}
@@ -17,16 +17,16 @@ use Rattle.wire_spec.specs.Writing.{notWritten, imageWritten}
 use Rattle.wire_spec.proofs.Laws.Writing.{asked-within, asked-over, asked-keeps}
 use Rattle.wire_spec.specs.Writing.{frameWritten}
 
--- the check laid behind a front that was laid: up to the check's end, the content with its check
+-- the check laid after a front that was laid: up to the check's end, the content with its check
 withCheck-at : (l : List ℕ) (check : Check) (front : List ℕ)
     → take (length front + checkLength check) (laid (laid l 0 front) (length front) (checkOf check (take (length front) (laid l 0 front))))
     ≡ withCheck check front
 unfolding withCheck
 withCheck-at l check front =
-    rw (take-front l front, laid-behind l front (checkOf check front), ← length-withCheck check front)
+    rw (take-front l front, laid-after l front (checkOf check front), ← length-withCheck check front)
     (take-front l (front ++ checkOf check front))
 
--- head, data and check laid one behind the other, from one state of the buffer to the next
+-- head, data and check laid one after the other, from one state of the buffer to the next
 pub withCheck-laid : (l : List ℕ) (check : Check) (head «data» : List ℕ) {x y z : List ℕ} {n : ℕ}
     → x ≡ laid l 0 head
     → y ≡ laid x (length head) «data»
@@ -34,7 +34,7 @@ pub withCheck-laid : (l : List ℕ) (check : Check) (head «data» : List ℕ) {
     → n ≡ length head + length «data» + checkLength check
     → take n z ≡ withCheck check (head ++ «data»)
 withCheck-laid l check head «data» ex ey ez en =
-    rw (en, ez, ey, ex, laid-behind l head «data», ← length-append head «data») (withCheck-at l check (head ++ «data»))
+    rw (en, ez, ey, ex, laid-after l head «data», ← length-append head «data») (withCheck-at l check (head ++ «data»))
 
 -- a content within the limit leaves only the room to be refused
 pub frame-within : (check : Check) (head «data» out : List ℕ) → length head + length «data» + checkLength check ≤ mostContent

@@ -68,7 +68,7 @@ stuffed-partner p known =
     let back : 0xFF - (0xFF - p) ≡ p = omega arith in
     rw back at (stuffed-special (0xFF - p) (omega arith) (omega arith))
 
--- one content behind the other
+-- one content after the other
 pub stuffing-append : (k l : List ℕ) → stuffing (k ++ l) ≡ stuffing k ++ stuffing l
 unfolding stuffing
 stuffing-append [] l = refl

@@ -11,7 +11,7 @@ use Rattle.ground.specs.declared.refusal.Refusal.the-variants.{NoRoom, TooLong}
 use Rattle.ground.specs.Refusals.{Keeps, refused, counted}
 use Rattle.ground.specs.Laying.{laid}
 use Rattle.ground.proofs.Laws.Choice.{cond-elim}
-use Rattle.ground.proofs.Laws.Laying.{laid-next, laid-front, set-behind}
+use Rattle.ground.proofs.Laws.Laying.{laid-next, laid-front, set-after}
 use Rattle.wire_spec.specs.Limits.{mostContent}
 use Rattle.wire_spec.specs.Stuffing.{stuffing}
 use Rattle.wire_spec.specs.Image.{start, stop, image, imageLength}
@@ -27,7 +27,7 @@ pub length-answered : (content : List ℕ) → length content ≤ mostContent �
 unfolding lengthAsked
 length-answered content within = rw (le-ltb mostContent (length content) within)
 
--- start, then the stuffing in the room behind it, then stop: the image stands in front
+-- start, then the stuffing in the room after it, then stop: the image stands in front
 pub image-laid : (content out : List ℕ) → length (image content) ≤ length out
     → set (laid (set out 0 start) 1 (stuffing content)) (1 + length (stuffing content)) stop
     ≡ image content ++ drop (length (image content)) out
@@ -35,7 +35,7 @@ unfolding image
 image-laid content out h =
     let S = stuffing content in
     let room : 2 + length S ≤ length out = omega (arith, imageLength-stuffing content, length-image content) in
-    set-behind (set out 0 start) 1 S stop (rw (length-set out 0 start) (omega arith))
+    set-after (set out 0 start) 1 S stop (rw (length-set out 0 start) (omega arith))
     ∙ laid-next out 0 start (S ++ (stop ∷ [])) (omega arith)
     ∙ laid-front out (start ∷ S ++ (stop ∷ []))
 

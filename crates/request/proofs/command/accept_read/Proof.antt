@@ -2,12 +2,12 @@
 -- Assumes nothing.
 use mathlib.Core.Path.{sym, _∙_}
 use borrow.Author.Needs.{needs}
-use Rattle.request_spec.proofs.Laws.Acceptance.{reading-other, reading-one}
+use Rattle.request_spec.proofs.Laws.Acceptance.{read-other, read-one}
 use Rattle.request.proofs.command.accept_read.Statement.{statement}
 use Rattle.request.proofs.command.accept_read.Tie as tie
 
 returns : tie.Need-returns
-returns c = reading-other (c .before .before .args .«data» .now) (c .if1 .taken)
+returns c = read-other (c .before .before .args .«data» .now) (c .if1 .taken)
 
 shared-slice-read-with-code : tie.Need-shared-slice-read-with-code
 shared-slice-read-with-code c = search needs
@@ -24,13 +24,13 @@ enum-told c = search needs
 returns-2 : tie.Need-returns-2
 returns-2 c =
     let d = c .before .before .before in
-    reading-one (d .before .before .before .before .args .«data» .now) (d .before .before .if1 .left)
+    read-one (d .before .before .before .before .args .«data» .now) (d .before .before .if1 .left)
     (sym (d .with-code .ensures) ∙ c .before .coded .given .1)
 
 returns-3 : tie.Need-returns-3
 returns-3 c =
     let d = c .before .before in
-    reading-one (d .before .before .before .before .args .«data» .now) (d .before .before .if1 .left)
+    read-one (d .before .before .before .before .args .«data» .now) (d .before .before .if1 .left)
     (sym (d .with-code .ensures) ∙ c .enum-told .given .1)
 
 pub accept-read-spec : {M : Type 1} → statement M

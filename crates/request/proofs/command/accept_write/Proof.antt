@@ -4,12 +4,12 @@ use mathlib.Core.Path.{sym, ap, _∙_}
 use borrow.Author.Needs.{needs}
 use Rattle.ground.proofs.Laws.Lists.{take-rest}
 use Rattle.request_spec.specs.Parameters.{isValueOf}
-use Rattle.request_spec.proofs.Laws.Acceptance.{writing-none, writing-some, writing-value}
+use Rattle.request_spec.proofs.Laws.Acceptance.{write-none, write-some, write-value}
 use Rattle.request.proofs.command.accept_write.Statement.{statement}
 use Rattle.request.proofs.command.accept_write.Tie as tie
 
 returns : tie.Need-returns
-returns c = writing-none (c .before .before .args .«data» .now) (c .if1 .taken)
+returns c = write-none (c .before .before .args .«data» .now) (c .if1 .taken)
 
 shared-slice-read-with-code : tie.Need-shared-slice-read-with-code
 shared-slice-read-with-code c = search needs
@@ -26,7 +26,7 @@ enum-told c = search needs
 returns-2 : tie.Need-returns-2
 returns-2 c =
     let d = c .before .before in
-    writing-some (d .before .before .before .before .args .«data» .now) (d .before .before .if1 .left)
+    write-some (d .before .before .before .before .args .«data» .now) (d .before .before .if1 .left)
     (sym (d .with-code .ensures) ∙ c .enum-told .given .1)
 
 sub-is-value-of : tie.Need-sub-is-value-of
@@ -46,7 +46,7 @@ returns-3 c =
     let d = c .before .before .before .before .before .before in
     let «data» = d .before .before .before .before .args .«data» .now in
     let known = c .before .before .before .before .coded .given in
-    writing-value «data» (d .before .before .if1 .left) (sym (d .with-code .ensures) ∙ known .1)
+    write-value «data» (d .before .before .if1 .left) (sym (d .with-code .ensures) ∙ known .1)
     (ap (isValueOf (known .0 .0)) (sym (take-rest «data» 1)) ∙ sym (c .before .is-value-of .ensures) ∙ c .if2 .taken)
 
 returns-4 : tie.Need-returns-4
@@ -54,7 +54,7 @@ returns-4 c =
     let d = c .before .before .before .before .before .before in
     let «data» = d .before .before .before .before .args .«data» .now in
     let known = c .before .before .before .before .coded .given in
-    writing-value «data» (d .before .before .if1 .left) (sym (d .with-code .ensures) ∙ known .1)
+    write-value «data» (d .before .before .if1 .left) (sym (d .with-code .ensures) ∙ known .1)
     (ap (isValueOf (known .0 .0)) (sym (take-rest «data» 1)) ∙ sym (c .before .is-value-of .ensures) ∙ c .if2 .left)
 
 pub accept-write-spec : {M : Type 1} → statement M

@@ -3,7 +3,7 @@
 use mathlib.Core.Path.{_∙_}
 use native.Mathlib.Omega.{arith}
 use borrow.Author.Needs.{needs}
-use Rattle.request_spec.proofs.Laws.Parameters.{lengthOf-least, takes-none, takes-some}
+use Rattle.request_spec.proofs.Laws.Parameters.{lengthOf-least, value-other, value-sized}
 use Rattle.request.proofs.parameter.is_value_of.Statement.{statement}
 use Rattle.request.proofs.parameter.is_value_of.Tie as tie
 
@@ -12,7 +12,7 @@ length-of-requires c κs = search needs
 
 returns : tie.Need-returns
 returns c =
-    let a = c .before .before .before .args in takes-none (a .parameter) (a .value .now) (c .before .length-of .ensures) (c .if1 .taken)
+    let a = c .before .before .before .args in value-other (a .parameter) (a .value .now) (c .before .length-of .ensures) (c .if1 .taken)
 
 enum-told : tie.Need-enum-told
 enum-told c = search needs
@@ -33,18 +33,18 @@ enum-told-3 c = search needs
 
 returns-2 : tie.Need-returns-2
 returns-2 c =
-    c .is-speed .ensures ∙ takes-some (c .before .before .before .before .before .before .before .args .value .now)
+    c .is-speed .ensures ∙ value-sized (c .before .before .before .before .before .before .before .args .value .now)
     (c .before .before .enum-told .given .1) (c .before .before .before .before .before .length-of .ensures)
     (c .before .before .before .before .if1 .left)
 
 returns-3 : tie.Need-returns-3
 returns-3 c =
-    takes-some (c .before .before .before .before .before .args .value .now) (c .enum-told2 .given .1)
+    value-sized (c .before .before .before .before .before .args .value .now) (c .enum-told2 .given .1)
     (c .before .before .before .length-of .ensures) (c .before .before .if1 .left)
 
 returns-4 : tie.Need-returns-4
 returns-4 c =
-    takes-some (c .before .before .before .before .before .args .value .now) (c .enum-told3 .given .1)
+    value-sized (c .before .before .before .before .before .args .value .now) (c .enum-told3 .given .1)
     (c .before .before .before .length-of .ensures) (c .before .before .if1 .left)
 
 pub is-value-of-spec : {M : Type 1} → statement M

@@ -36,7 +36,7 @@ abbrev μ-loop : tie.MeasureT-loop
 μ-loop chunk out₀ records₀ next₀ receivers₀ piece₀ taken₀ written₀ out records next receivers piece taken written =
     length chunk - taken
 
--- there is room for the longest line
+-- there is room for the longest row
 roomy : (c : tie.Then1 Inv-loop μ-loop) → let l = c .before .before .before .before .loop in leastRoom ≤ length (l .out) - l .written
 roomy c = omega (arith, leb-true leastRoom (c .before .room .result) (c .if1 .taken), c .before .room .ensures)
 
@@ -152,7 +152,7 @@ heard c =
     (take-rest (whole o) (l .taken))
     (subst (λ (s : Receiver). RunHeard line s (l .records) part (l .out) (l .written) after) (o .receiver-on .ensures) (c .run .ensures))
 
--- behind it a kind is next again
+-- after it a kind is next again
 kind-next : (c : tie.After-run Inv-loop μ-loop)
     → let o = c .before .before .before .before in
     let l = turn o .loop in

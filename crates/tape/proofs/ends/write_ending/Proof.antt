@@ -47,7 +47,7 @@ slice-aggregate-put-4 c = search needs
 put-requires-2 : tie.Need-put-requires-2
 put-requires-2 c κs = search needs
 
--- the line that was asked for
+-- the row that was asked for
 abbrev asked : tie.After-row6 → List ℕ
 asked c =
     let a = c .before .before .before .before .before .before .before .before .before .before .before .before .before .before .args in

@@ -77,10 +77,10 @@ loop-again c =
           (eqb-true _ _ (c .before .if1 .taken)) (l .inv .3),
     )
 
--- the bodies that stand in the piece behind a turn
-behind : (c : tie.At-loop Inv-loop μ-loop) → let a = c .before .before .before .before .before .args in let l = c .loop in
+-- the bodies that stand in the piece after a turn
+after-turn : (c : tie.At-loop Inv-loop μ-loop) → let a = c .before .before .before .before .before .args in let l = c .loop in
     (l .count ≤ length (l .piece)) × Gathered (a .kind) (a .most) (a .chunk .now) (take (l .count) (l .piece))
-behind c =
+after-turn c =
     let l = c .loop in
     let e = c .before .before .before .before .before in
     let a = e .args in
@@ -90,13 +90,13 @@ same-length : tie.Need-same-length Inv-loop μ-loop
 same-length c = omega (arith, kept (c .before .before .before))
 
 returns : tie.Need-returns Inv-loop μ-loop
-returns c = behind (c .before .before .before)
+returns c = after-turn (c .before .before .before)
 
 same-length-2 : tie.Need-same-length-2 Inv-loop μ-loop
 same-length-2 c = omega (arith, kept (c .before))
 
 returns-2 : tie.Need-returns-2 Inv-loop μ-loop
-returns-2 c = behind (c .before)
+returns-2 c = after-turn (c .before)
 
 pub gather-spec : {M : Type 1} → statement M
 gather-spec =

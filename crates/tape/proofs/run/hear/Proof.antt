@@ -14,7 +14,7 @@ use Rattle.link_spec.proofs.Laws.Receiving.{length-within}
 use Rattle.tape_spec.specs.Limits.{leastRoom, mostRecords}
 use Rattle.tape_spec.specs.Rows.{heardRow}
 use Rattle.tape.specs.Running.{runLeft, running}
-use Rattle.tape.proofs.Laws.Hearing.{Goes, leavingBehind, out-of-room, out-of-bodies, takes-some, takes-most, next-call, none-before}
+use Rattle.tape.proofs.Laws.Hearing.{Goes, leavingAfter, out-of-room, out-of-bodies, takes-some, takes-most, next-call, none-before}
 use Rattle.tape.proofs.run.hear.Statement.{statement}
 use Rattle.tape.proofs.run.hear.Tie as tie
 
@@ -34,7 +34,7 @@ loop-holds c =
         good = c .before .before .pre .0;
         ends = omega arith;
         same =
-            ap (λ (n : ℕ). leavingBehind 0 (running (length (a .out .now) - a .at) (a .line) n (a .receiver) (a .bodies .now)) (a .out .now)
+            ap (λ (n : ℕ). leavingAfter 0 (running (length (a .out .now) - a .at) (a .line) n (a .receiver) (a .bodies .now)) (a .out .now)
             (a .at))
             (add-zero (a .records))
             ∙ none-before (running (length (a .out .now) - a .at) (a .line) (a .records) (a .receiver) (a .bodies .now)) (a .out .now)

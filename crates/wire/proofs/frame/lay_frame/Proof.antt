@@ -18,7 +18,7 @@ use Rattle.wire.proofs.frame.lay_frame.Tie as tie
 entry : tie.After-content7 → tie.Start
 entry c = c .before .before .before .before .before .before .before .before .before .before .before .before .before .before
 
--- the place behind the check
+-- the place after the check
 end : tie.After-content7 → ℕ
 end c = length (entry c .args .head .now) + length (entry c .args .«data» .now) + c .before .check-length .result
 

@@ -35,7 +35,7 @@ whole c = putMid 1 (length (begun c) - 1) (begun c) (c .before .before .stuff .l
 fits : (c : tie.After-slice-known2) → 1 + length (stuffing (entry c .args .content .now)) ≤ length (begun c)
 fits c = simp length-set (omega (arith, room (c .before .before .before .before)))
 
--- the stuffing stands behind start
+-- the stuffing stands after start
 back : (c : tie.After-slice-known2) → whole c ≡ laid (begun c) 1 (stuffing (entry c .args .content .now))
 back c = ap (putMid 1 (length (begun c) - 1) (begun c)) (c .before .before .stuff .ensures .1) ∙ laid-part (begun c) 1 _ (fits c)
 
