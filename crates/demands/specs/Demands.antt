@@ -38,7 +38,7 @@ use Rattle.reader_spec.specs.Asking.{asking}
 use Rattle.reader_spec.specs.Replies.{replyImage}
 use Rattle.reader_spec.specs.Sending.{OUT, Buffers}
 use Rattle.reader_spec.specs.Answering.{poweredOn, Input, answered}
-use Rattle.reader_spec.specs.Sessions.{History, isExecuted, asksFor, next, Call, Done, bytesSent, ReaderSession, Idle, Unwritten}
+use Rattle.reader_spec.specs.Sessions.{History, isExecuted, asksFor, nextHistory, Call, Done, bytesSent, ReaderSession, Idle, Unwritten}
 use Rattle.reader_spec.specs.Promises.{Repeated}
 use Rattle.tape_spec.specs.declared.tape.Tape.{Tape}
 use Rattle.tape_spec.specs.Rows.{headerRow, lastRow}
@@ -100,14 +100,14 @@ pub record Demand2 : Type 0 where
   -- what was written to a parameter is what a later read sends, until another write of it
   pub values : {alone : Bool} {s t : Reader} {held kept : List ℕ} {h k : History} {p : Parameter} → ReaderSession alone s held h
       → (w : Call alone h s held) → Done w → isExecuted h (w .input) ≡ true → asksFor h (w .input) ≡ Accepted (Write p)
-      → Unwritten alone p (w .answer .reader) (w .left .store) (next h (w .input)) t kept k
+      → Unwritten alone p (w .answer .reader) (w .left .store) (nextHistory h (w .input)) t kept k
       → (r : Call alone k t kept) → Done r → isExecuted k (r .input) ≡ true → asksFor k (r .input) ≡ Accepted (Read p)
       → bytesSent r ≡ replyImage (identifierOf (r .input .content)) (commandOf (r .input .content)) (DATA (drop 1 (dataOf (w .input .content))))
   -- after a command was executed, and any calls that execute nothing, a frame with its identifier and command gets the stored reply
   pub repeats : {s t : Reader} {held kept : List ℕ} {h : History} → ReaderSession false s held h
       → (first : Call false h s held) → Done first → isExecuted h (first .input) ≡ true
-      → Idle true (next h (first .input)) (first .answer .reader) (first .left .store) t kept
-      → (again : Call true (next h (first .input)) t kept) → Done again → asking (again .input .event) ≡ Right
+      → Idle true (nextHistory h (first .input)) (first .answer .reader) (first .left .store) t kept
+      → (again : Call true (nextHistory h (first .input)) t kept) → Done again → asking (again .input .event) ≡ Right
       → identifierOf (again .input .content) ≡ identifierOf (first .input .content)
       → commandOf (again .input .content) ≡ commandOf (first .input .content)
       → Repeated first again

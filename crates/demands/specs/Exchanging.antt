@@ -26,8 +26,8 @@ use Rattle.reader_spec.specs.declared.reader.Reader.{Reader}
 use Rattle.reader_spec.specs.State.{stateOf}
 use Rattle.reader_spec.specs.Asking.{asking}
 use Rattle.reader_spec.specs.Replies.{IsAnswer, replyImage, replyTo}
-use Rattle.reader_spec.specs.Answering.{Lent}
-use Rattle.reader_spec.specs.Sessions.{History, repeats, bytesOf, repeatsLast, asksFor, judgedNext, toSend, isRepeat, Call, Done, bytesSent, ReaderSession}
+use Rattle.reader_spec.specs.Answering.{LentWell}
+use Rattle.reader_spec.specs.Sessions.{History, repeats, bytesOf, repeatsLast, asksFor, judgedHistory, toSend, isRepeat, Call, Done, bytesSent, ReaderSession}
 use Rattle.reader_spec.specs.Promises.{Recalls}
 
 module _ {alone : Bool} {h : History} {s : Reader} {held : List ℕ} (c : Call alone h s held) where
@@ -35,7 +35,7 @@ module _ {alone : Bool} {h : History} {s : Reader} {held : List ℕ} (c : Call a
   pub record Asks (identifier code : ℕ) («data» : List ℕ) : Type 0 where
     pub event : c .input .event ≡ FRAME
     pub content : c .input .content ≡ identifier ∷ code ∷ «data»
-    pub well : Lent (c .input) (c .lent)
+    pub well : LentWell (c .input) (c .lent)
     pub new : repeats (h .last) identifier code ≡ false
 
   -- It executed the request: it sends the reply that the table has for the values written so far, and the session goes on with what the
@@ -46,7 +46,7 @@ module _ {alone : Bool} {h : History} {s : Reader} {held : List ℕ} (c : Call a
     pub done : Done c
     pub sends : bytesSent c ≡ bytesOf (c .input .content) (some (replyTo (h .value) command (c .input .header) (c .input .antenna)))
     pub reply : IsAnswer (replyTo (h .value) command (c .input .header) (c .input .antenna))
-    pub goesOn : ReaderSession alone (c .answer .reader) (c .left .store) (judgedNext h (c .input) (Accepted command))
+    pub goesOn : ReaderSession alone (c .answer .reader) (c .left .store) (judgedHistory h (c .input) (Accepted command))
 
   -- It answered the request with NACK 2, where its code is unknown, or NACK 3, where its data is not acceptable: it sends that, and neither
   -- the reader's state nor the store changed.

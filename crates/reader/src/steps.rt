@@ -31,7 +31,7 @@ ghost use Rattle.link_spec.specs.Events.{named, FRAME};
 ghost use Rattle.request_spec.specs.Acceptance.{FitsCommand};
 ghost use Rattle.reader_spec.specs.State.{stateOf};
 ghost use Rattle.reader_spec.specs.Sending.{buffersOf};
-ghost use Rattle.reader_spec.specs.Answering.{inputOf, answerSays, Lent, executed as executedOf, framed, isFront, fits as fitsOf, admitted, Answers};
+ghost use Rattle.reader_spec.specs.Answering.{inputOf, answerSays, LentWell, executed as executedOf, framed, isFront, fits as fitsOf, admitted, Answers};
 ghost use Rattle.reader.specs.Answers.{answerOf};
 
 // Answers what a receiver heard: an event with its content, the check cut off. What is to be sent stands in `out`, on a repeat in
@@ -74,7 +74,7 @@ fn admit(
     store: &mut [u8],
     out: &mut [u8],
 ) -> Answer
-    requires { ⌜ Lent (inputOf (named event) (now content) header (now antenna)) (buffersOf (now store) (now out)) ⌝ }
+    requires { ⌜ LentWell (inputOf (named event) (now content) header (now antenna)) (buffersOf (now store) (now out)) ⌝ }
     ensures { λ r. ⌜ answerSays r (buffersOf (now (store .exit)) (now (out .exit))) ≡ admitted (stateOf reader) (inputOf (named event) (now (content .entry)) header (now (antenna .entry))) (buffersOf (now (store .entry)) (now (out .entry))) ⌝ }
 {
     let asking = asked_by(event);
@@ -102,7 +102,7 @@ fn answer_frame(
     store: &mut [u8],
     out: &mut [u8],
 ) -> Answer
-    requires { ⌜ (isFront (now content) ≡ true) × Lent (inputOf FRAME (now content) header (now antenna)) (buffersOf (now store) (now out)) ⌝ }
+    requires { ⌜ (isFront (now content) ≡ true) × LentWell (inputOf FRAME (now content) header (now antenna)) (buffersOf (now store) (now out)) ⌝ }
     ensures { λ r. ⌜ answerSays r (buffersOf (now (store .exit)) (now (out .exit))) ≡ framed (stateOf reader) (inputOf FRAME (now (content .entry)) header (now (antenna .entry))) (buffersOf (now (store .entry)) (now (out .entry))) ⌝ }
 {
     let identifier = content[0];
@@ -147,7 +147,7 @@ fn execute(
     store: &mut [u8],
     out: &mut [u8],
 ) -> Answer
-    requires { ⌜ FitsCommand command (now «data») × Lent (inputOf FRAME (now «data») header (now antenna)) (buffersOf (now store) (now out)) ⌝ }
+    requires { ⌜ FitsCommand command (now «data») × LentWell (inputOf FRAME (now «data») header (now antenna)) (buffersOf (now store) (now out)) ⌝ }
     ensures { λ r. ⌜ answerSays r (buffersOf (now (store .exit)) (now (out .exit))) ≡ executedOf (stateOf reader) (inputOf FRAME (identifier ∷ code ∷ now («data» .entry)) header (now (antenna .entry))) (buffersOf (now (store .entry)) (now (out .entry))) command ⌝ }
 {
     let parameters = reader.parameters;

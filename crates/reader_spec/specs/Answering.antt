@@ -146,18 +146,18 @@ Answers reader i lent r left = answerSays r left ≡ answered (stateOf reader) i
 -- ---- the same as a table
 
 -- an antenna's answer and buffers that no row refuses
-abbrev pub Lent : Input → Buffers → Type 0
-Lent i lent = (length (i .antenna) ≤ mostAntenna) × (room ≤ length (lent .store)) × (room ≤ length (lent .out))
+abbrev pub LentWell : Input → Buffers → Type 0
+LentWell i lent = (length (i .antenna) ≤ mostAntenna) × (room ≤ length (lent .store)) × (room ≤ length (lent .out))
 
 -- the events that row 5 speaks of
-pub data Framed : Name → Type 0 where
-  frame : Framed FRAME
-  check : Framed CHECK
+pub data CarriesContent : Name → Type 0 where
+  frame : CarriesContent FRAME
+  check : CarriesContent CHECK
 
 -- a FRAME or CHECK whose content without check is not 2..62 bytes
 pub data Unfit (i : Input) : Type 0 where
-  short : Framed (i .event) → length (i .content) < leastFront → Unfit i
-  long : Framed (i .event) → mostFront < length (i .content) → Unfit i
+  short : CarriesContent (i .event) → length (i .content) < leastFront → Unfit i
+  long : CarriesContent (i .event) → mostFront < length (i .content) → Unfit i
 
 -- The reader's rows of the refusal table, and the steps where no row applies. `Laws.Answering` proves that `answered` answers by them, and
 -- that they leave it no other answer.
@@ -170,5 +170,5 @@ pub data ReaderTable (s : State) (i : Input) (lent : Buffers) : Answered → Typ
       → room ≤ length (lent .out)
       → mostAntenna < length (i .antenna)
       → ReaderTable s i lent (notAnswered TooLong s lent)
-  request : (BadState s → ⊥) → Lent i lent → Unfit i → ReaderTable s i lent (notAnswered BadRequest s lent)
-  steps : (BadState s → ⊥) → Lent i lent → (Unfit i → ⊥) → ReaderTable s i lent (stepped s i lent (asking (i .event)))
+  request : (BadState s → ⊥) → LentWell i lent → Unfit i → ReaderTable s i lent (notAnswered BadRequest s lent)
+  steps : (BadState s → ⊥) → LentWell i lent → (Unfit i → ⊥) → ReaderTable s i lent (stepped s i lent (asking (i .event)))

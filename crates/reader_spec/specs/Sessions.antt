@@ -101,9 +101,9 @@ module _ (h : History) (i : Input) where
   asksFor = acceptance (commandOf (i .content)) (dataOf (i .content))
 
   -- step 6: executed, and remembered; steps 4 and 5: not
-  abbrev pub judgedNext : Acceptance → History
-  judgedNext (Refused fault) = h
-  judgedNext (Accepted command) =
+  abbrev pub judgedHistory : Acceptance → History
+  judgedHistory (Refused fault) = h
+  judgedHistory (Accepted command) =
       record {
         value = valuesAfter (h .value) command (dataOf (i .content));
         last = some
@@ -115,15 +115,15 @@ module _ (h : History) (i : Input) where
       }
 
   -- what is told after a call that was not refused
-  abbrev pub nextAs : Asking → History
-  nextAs asked = cond (isFrame asked) (cond repeatsLast h (judgedNext asksFor)) h
+  abbrev pub nextHistoryAs : Asking → History
+  nextHistoryAs asked = cond (isFrame asked) (cond repeatsLast h (judgedHistory asksFor)) h
 
-  abbrev pub next : History
-  next = nextAs (asking (i .event))
+  abbrev pub nextHistory : History
+  nextHistory = nextHistoryAs (asking (i .event))
 
   -- and after any call, by its refusal: one that was refused tells nothing
-  abbrev pub nextBy : ℕ → History
-  nextBy refusal = cond (eqb refusal 0) next h
+  abbrev pub nextHistoryBy : ℕ → History
+  nextHistoryBy refusal = cond (eqb refusal 0) nextHistory h
 
   -- the reply that is due: by steps 4 to 6
   abbrev pub judgedReply : Acceptance → Reply
@@ -186,20 +186,20 @@ module _ {alone : Bool} {h : History} {s : Reader} {held : List ℕ} (c : Call a
   bytesSent = sent (bufferNamed (c .answer .buffer)) (c .answer .length) (c .left)
 
   -- what is told after it
-  abbrev pub told : History
-  told = nextBy h (c .input) (number (c .answer .refusal))
+  abbrev pub historyAfter : History
+  historyAfter = nextHistoryBy h (c .input) (number (c .answer .refusal))
 
 -- Calls and power-ons in a row from a fresh reader, each with the reader that the last one answered; what the store held as the last call
 -- returned; and what they tell.
 pub data ReaderSession (alone : Bool) : Reader → List ℕ → History → Type 0 where
-  made : (r : Reader) (store : List ℕ) → stateOf r ≡ freshState → ReaderSession alone r store begun
+  begins : (r : Reader) (store : List ℕ) → stateOf r ≡ freshState → ReaderSession alone r store begun
   powered : {s : Reader} {held : List ℕ} {h : History} → ReaderSession alone s held h
       → (r : Powered)
       → powering r ≡ poweredOn (stateOf s)
       → ReaderSession alone (r .reader) held (poweredBy h (number (r .refusal)))
   called : {s : Reader} {held : List ℕ} {h : History} → ReaderSession alone s held h
       → (c : Call alone h s held)
-      → ReaderSession alone (c .answer .reader) (c .left .store) (told c)
+      → ReaderSession alone (c .answer .reader) (c .left .store) (historyAfter c)
 
 -- calls in a row that execute nothing, refused ones too, from one reader and store to another
 pub data Idle (alone : Bool) (h : History) (s : Reader) (held : List ℕ) : Reader → List ℕ → Type 0 where
@@ -219,4 +219,4 @@ pub data Unwritten (alone : Bool) (p : Parameter) (s : Reader) (held : List ℕ)
   other : {t : Reader} {kept : List ℕ} {k : History} → Unwritten alone p s held h t kept k
       → (c : Call alone k t kept)
       → (Done c → isExecuted k (c .input) ≡ true → asksFor k (c .input) ≡ Accepted (Write p) → ⊥)
-      → Unwritten alone p s held h (c .answer .reader) (c .left .store) (told c)
+      → Unwritten alone p s held h (c .answer .reader) (c .left .store) (historyAfter c)

@@ -61,6 +61,6 @@ badState s = not (isSpeed (s .parameters .speed)) || tooFar (s .last)
 
 -- the same as rows, in the paper's numbers. `Laws.State` proves that these are the bad states, and that there are no others
 pub data BadState (s : State) : Type 0 where
-  tooSlow : s .parameters .speed < 3 → BadState s
-  tooFast : 10 < s .parameters .speed → BadState s
-  tooLong : {last : Last} → s .last ≡ some last → room < last .length → BadState s
+  speedUnder : s .parameters .speed < 3 → BadState s
+  speedOver : 10 < s .parameters .speed → BadState s
+  lengthOver : {last : Last} → s .last ≡ some last → room < last .length → BadState s

@@ -9,7 +9,7 @@ use lib.Seq.{length-take-le}
 use Rattle.ground.proofs.Laws.Laying.{put-ends}
 use Rattle.tape_spec.specs.declared.tape.Tape.{Tape}
 use Rattle.tape_spec.specs.Limits.{mostRecords}
-use Rattle.tape_spec.specs.Taping.{lastOf}
+use Rattle.tape_spec.specs.Taping.{lastRowOf}
 use Rattle.listing.proofs.list_tape.Statement.{statement}
 use Rattle.listing.proofs.list_tape.Tie as tie
 
@@ -83,7 +83,7 @@ slice-reshare-prefix-print : tie.Need-slice-reshare-prefix-print Inv-loop μ-loo
 slice-reshare-prefix-print c =
     let w = c .before .before .write-last in
     let l = c .before .before .before .before .before .loop in
-    omega (arith, w .kept, put-ends (w .result) (lastOf (l .tape)) (l .text) 0 (w .ensures) zero-le)
+    omega (arith, w .kept, put-ends (w .result) (lastRowOf (l .tape)) (l .text) 0 (w .ensures) zero-le)
 
 slice-aggregate-print : tie.Need-slice-aggregate-print Inv-loop μ-loop
 slice-aggregate-print c = sym (length-take-le _ _ (slice-reshare-prefix-print (c .before)))

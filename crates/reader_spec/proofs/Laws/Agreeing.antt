@@ -31,8 +31,8 @@ use Rattle.reader_spec.specs.Parameters.{valueOf}
 use Rattle.reader_spec.specs.State.{Last, lastOf, State, stateWith, freshState, find, tooFar, badState}
 use Rattle.reader_spec.specs.Replies.{replyImage, replyTo}
 use Rattle.reader_spec.specs.Sending.{OUT, STORE, Buffers, sent}
-use Rattle.reader_spec.specs.Answering.{Input, Answered, Lent, sending, nacked, executed, judged, recalled, framed, stepped}
-use Rattle.reader_spec.specs.Sessions.{Execution, imageOf, History, begun, forgetting, repeats, isFrame, repeatsLast, asksFor, judgedNext, nextAs, judgedReply, bytesOf, dueAs, StoreKept}
+use Rattle.reader_spec.specs.Answering.{Input, Answered, LentWell, sending, nacked, executed, judged, recalled, framed, stepped}
+use Rattle.reader_spec.specs.Sessions.{Execution, imageOf, History, begun, forgetting, repeats, isFrame, repeatsLast, asksFor, judgedHistory, nextHistoryAs, judgedReply, bytesOf, dueAs, StoreKept}
 use Rattle.reader_spec.proofs.Laws.Replies.{point-room}
 use Rattle.reader_spec.proofs.Laws.Answering.{framed-by}
 use Rattle.reader_spec.proofs.Laws.Sending.{sent-none, sent-out, sent-store}
@@ -147,18 +147,18 @@ module _ (s : State) (i : Input) (lent : Buffers) where
 
 -- ---- one call that is not refused: the state agrees with what is told next, and what is sent is due
 
-pub record Tells (alone : Bool) (h : History) (bytes : List ℕ) (again : Bool) (a : Answered) : Type 0 where
+pub record StepAgrees (alone : Bool) (h : History) (bytes : List ℕ) (again : Bool) (a : Answered) : Type 0 where
   pub none : a .refusal ≡ 0
   pub agrees : Agrees alone (a .state) (a .left .store) h
   pub sends : (again ≡ true → alone ≡ true) → sent (a .buffer) (a .length) (a .left) ≡ bytes
 
-module _ (alone : Bool) (s : State) (i : Input) (lent : Buffers) (whole : length (i .header) ≡ headerLength) (well : Lent i lent) where
-  tells-none : {h : History} → Agrees alone s (lent .store) h → Tells alone h [] false (sending s OUT 0 lent)
-  tells-none a = record { none = refl; agrees = a; sends = λ _. sent-none lent }
+module _ (alone : Bool) (s : State) (i : Input) (lent : Buffers) (whole : length (i .header) ≡ headerLength) (well : LentWell i lent) where
+  none-agrees : {h : History} → Agrees alone s (lent .store) h → StepAgrees alone h [] false (sending s OUT 0 lent)
+  none-agrees a = record { none = refl; agrees = a; sends = λ _. sent-none lent }
 
-  tells-nack : {h : History} (identifier n : ℕ) → Agrees alone s (lent .store) h
-      → Tells alone h (replyImage identifier sign (NACK n)) false (nacked s identifier n lent)
-  tells-nack identifier n a =
+  nack-agrees : {h : History} (identifier n : ℕ) → Agrees alone s (lent .store) h
+      → StepAgrees alone h (replyImage identifier sign (NACK n)) false (nacked s identifier n lent)
+  nack-agrees identifier n a =
       record { none = refl; agrees = a; sends = λ _. sent-out (replyImage identifier sign (NACK n)) (lent .store) (lent .out) }
 
   module _ (last : Option Execution) where
@@ -166,12 +166,12 @@ module _ (alone : Bool) (s : State) (i : Input) (lent : Buffers) (whole : length
     known value = record { value = value; last = last }
 
     -- steps 4 to 6
-    tells-executed : (command : Command) → FitsCommand command (dataOf (i .content))
+    executed-agrees : (command : Command) → FitsCommand command (dataOf (i .content))
         → Agrees alone s (lent .store) (known (valueOf (s .parameters)))
-        → Tells alone (judgedNext (known (valueOf (s .parameters))) i (Accepted command))
+        → StepAgrees alone (judgedHistory (known (valueOf (s .parameters))) i (Accepted command))
         (bytesOf (i .content) (some (replyTo (valueOf (s .parameters)) command (i .header) (i .antenna)))) false
         (executed s i lent command)
-    tells-executed command carried a =
+    executed-agrees command carried a =
         let value = valueOf (s .parameters) in
         let reply = replyTo value command (i .header) (i .antenna) in
         let e : Execution = record { identifier = identifierOf (i .content); code = commandOf (i .content); reply = reply } in
@@ -188,20 +188,20 @@ module _ (alone : Bool) (s : State) (i : Input) (lent : Buffers) (whole : length
           sends = λ _. sent-out (imageOf e) (onto (imageOf e) (lent .store)) (lent .out);
         }
 
-    tells-judged : (k : Acceptance) → acceptance (commandOf (i .content)) (dataOf (i .content)) ≡ k
+    judged-agrees : (k : Acceptance) → acceptance (commandOf (i .content)) (dataOf (i .content)) ≡ k
         → Agrees alone s (lent .store) (known (valueOf (s .parameters)))
-        → Tells alone (judgedNext (known (valueOf (s .parameters))) i k)
+        → StepAgrees alone (judgedHistory (known (valueOf (s .parameters))) i k)
         (bytesOf (i .content) (some (judgedReply (known (valueOf (s .parameters))) i k))) false (judged s i lent k)
-    tells-judged (Refused fault) asked a = tells-nack (identifierOf (i .content)) (nackOf fault) a
-    tells-judged (Accepted command) asked a = tells-executed command (carries (accepts (commandOf (i .content)) (dataOf (i .content)) asked)) a
+    judged-agrees (Refused fault) asked a = nack-agrees (identifierOf (i .content)) (nackOf fault) a
+    judged-agrees (Accepted command) asked a = executed-agrees command (carries (accepts (commandOf (i .content)) (dataOf (i .content)) asked)) a
 
-  tells-recalled : (value : Parameter → List ℕ) (last : Option Execution)
+  recalled-agrees : (value : Parameter → List ℕ) (last : Option Execution)
       → repeats last (identifierOf (i .content)) (commandOf (i .content)) ≡ true
       → Agrees alone s (lent .store) (record { value = value; last = last })
-      → Tells alone (record { value = value; last = last })
+      → StepAgrees alone (record { value = value; last = last })
       (bytesOf (i .content) (Option·map (λ (e : Execution). e .reply) last)) true (recalledAs s lent last)
-  tells-recalled value none same a = absurd (true≢false (sym same))
-  tells-recalled value (some e) same a =
+  recalled-agrees value none same a = absurd (true≢false (sym same))
+  recalled-agrees value (some e) same a =
       let (j, k) = and-eq-true-iff (eqb (e .identifier) (identifierOf (i .content))) (eqb (e .code) (commandOf (i .content))) .0 same in
       let own = eqb-true (e .identifier) (identifierOf (i .content)) j in
       let asked = eqb-true (e .code) (commandOf (i .content)) k in
@@ -218,30 +218,30 @@ module _ (alone : Bool) (s : State) (i : Input) (lent : Buffers) (whole : length
       in-store : alone ≡ true → InStore alone (lent .store) (some e) → take (length (imageOf e)) (lent .store) ≡ imageOf e
       in-store single kept = subst (λ (b : Bool). InStore b (lent .store) (some e)) single kept
 
-  tells-frame : (h : History) → Agrees alone s (lent .store) h
-      → Tells alone (nextAs h i Right) (bytesOf (i .content) (dueAs h i Right)) (repeatsLast h i) (framed s i lent)
-  tells-frame h a =
+  frame-agrees : (h : History) → Agrees alone s (lent .store) h
+      → StepAgrees alone (nextHistoryAs h i Right) (bytesOf (i .content) (dueAs h i Right)) (repeatsLast h i) (framed s i lent)
+  frame-agrees h a =
       let k = asksFor h i in
-      subst⁻¹ (Tells alone (nextAs h i Right) (bytesOf (i .content) (dueAs h i Right)) (repeatsLast h i))
+      subst⁻¹ (StepAgrees alone (nextHistoryAs h i Right) (bytesOf (i .content) (dueAs h i Right)) (repeatsLast h i))
       (framed-told s i lent (h .last) (a .memory))
       (by-test
-      (λ (t : Bool). Tells alone (cond t h (judgedNext h i k))
+      (λ (t : Bool). StepAgrees alone (cond t h (judgedHistory h i k))
       (bytesOf (i .content) (cond t (Option·map (λ (e : Execution). e .reply) (h .last)) (some (judgedReply h i k)))) t
       (cond t (recalledAs s lent (h .last)) (judged s i lent k)))
       (repeatsLast h i)
-      (λ same. tells-recalled (h .value) (h .last) same a)
-      (λ _. subst P (a .values) (tells-judged (h .last) k refl
+      (λ same. recalled-agrees (h .value) (h .last) same a)
+      (λ _. subst P (a .values) (judged-agrees (h .last) k refl
       (subst⁻¹ (λ (v : Parameter → List ℕ). Agrees alone s (lent .store) (record { value = v; last = h .last })) (a .values) a))))
     where
       P : (Parameter → List ℕ) → Type 0
       P v =
           let h′ : History = record { value = v; last = h .last } in
-          Tells alone (judgedNext h′ i (asksFor h i)) (bytesOf (i .content) (some (judgedReply h′ i (asksFor h i)))) false
+          StepAgrees alone (judgedHistory h′ i (asksFor h i)) (bytesOf (i .content) (some (judgedReply h′ i (asksFor h i)))) false
           (judged s i lent (asksFor h i))
 
   -- each step
-  pub tells-step : (asked : Asking) (h : History) → Agrees alone s (lent .store) h
-      → Tells alone (nextAs h i asked) (bytesOf (i .content) (dueAs h i asked)) (isFrame asked && repeatsLast h i) (stepped s i lent asked)
-  tells-step Nothing h a = tells-none a
-  tells-step Wrong h a = tells-nack (identifierOf (i .content)) wrongCheck a
-  tells-step Right h a = tells-frame h a
+  pub step-agrees : (asked : Asking) (h : History) → Agrees alone s (lent .store) h
+      → StepAgrees alone (nextHistoryAs h i asked) (bytesOf (i .content) (dueAs h i asked)) (isFrame asked && repeatsLast h i) (stepped s i lent asked)
+  step-agrees Nothing h a = none-agrees a
+  step-agrees Wrong h a = nack-agrees (identifierOf (i .content)) wrongCheck a
+  step-agrees Right h a = frame-agrees h a

@@ -30,7 +30,7 @@ use Rattle.reader_spec.specs.State.{State, stateWith, find, badState, Ba
 use Rattle.reader_spec.specs.Asking.{asking}
 use Rattle.reader_spec.specs.Replies.{replyImage}
 use Rattle.reader_spec.specs.Sending.{OUT, Buffers}
-use Rattle.reader_spec.specs.Answering.{PoweredOn, poweredOn, Input, Answered, notAnswered, nacked, replyBytes, judged, recalled, framed, stepped, Lent, isFront, fits, admitted, answered, Framed, frame, check, Unfit, short, long, ReaderTable, state, noStore, noOut, tooLong, request, steps}
+use Rattle.reader_spec.specs.Answering.{PoweredOn, poweredOn, Input, Answered, notAnswered, nacked, replyBytes, judged, recalled, framed, stepped, LentWell, isFront, fits, admitted, answered, CarriesContent, frame, check, Unfit, short, long, ReaderTable, state, noStore, noOut, tooLong, request, steps}
 use Rattle.reader_spec.proofs.Laws.State.{bad-state, bad-row, good-state, no-row}
 
 -- ---- power-on: row 4 of the refusal table, when and only then
@@ -69,19 +69,19 @@ front-long content many = rw (lt-leb (length content) mostFront many, and-false 
 unfit-is : (i : Input) → Unfit i → fits (asking (i .event)) (i .content) ≡ false
 unfit-is i (short asks few) = of (i .event) asks
   where
-    of : (event : Name) → Framed event → fits (asking event) (i .content) ≡ false
+    of : (event : Name) → CarriesContent event → fits (asking event) (i .content) ≡ false
     of FRAME frame = front-short (i .content) few
     of CHECK check = front-short (i .content) few
 unfit-is i (long asks many) = of (i .event) asks
   where
-    of : (event : Name) → Framed event → fits (asking event) (i .content) ≡ false
+    of : (event : Name) → CarriesContent event → fits (asking event) (i .content) ≡ false
     of FRAME frame = front-long (i .content) many
     of CHECK check = front-long (i .content) many
 
 unfit-row : (i : Input) → fits (asking (i .event)) (i .content) ≡ false → Unfit i
 unfit-row i = of (i .event) refl
   where
-    front : Framed (i .event) → isFront (i .content) ≡ false → Unfit i
+    front : CarriesContent (i .event) → isFront (i .content) ≡ false → Unfit i
     front asks =
         by-test (λ (t : Bool). (t && leb (length (i .content)) mostFront) ≡ false → Unfit i) (leb leastFront (length (i .content)))
         (λ _ f. long asks (leb-false (length (i .content)) mostFront f))
@@ -149,7 +149,7 @@ module _ (s : State) (i : Input) (lent : Buffers) where
               le-ltb mostAntenna (length (i .antenna)) few,
             )
 
-    module _ (well : Lent i lent) where
+    module _ (well : LentWell i lent) where
       refuses-request : fits (asking (i .event)) (i .content) ≡ false → answered s i lent ≡ notAnswered BadRequest s lent
       refuses-request bad = admits (well .1) (well .2) (well .0) ∙ rw bad
 
@@ -168,7 +168,7 @@ module _ (s : State) (i : Input) (lent : Buffers) where
       let enough = ltb-false (length (lent .out)) room enough in
       cond-elim P (ltb mostAntenna (length (i .antenna)))
       (λ over. tooLong good kept enough (ltb-true mostAntenna (length (i .antenna)) over))
-      (λ few. let well : Lent i lent = (ltb-false mostAntenna (length (i .antenna)) few, kept, enough) in
+      (λ few. let well : LentWell i lent = (ltb-false mostAntenna (length (i .antenna)) few, kept, enough) in
       cond-elim P (fits (asking (i .event)) (i .content)) (λ fine. steps good well (fit-none i fine))
       (λ bad. request good well (unfit-row i bad)))))
     where
@@ -192,7 +192,7 @@ module _ (s : State) (i : Input) (lent : Buffers) where
 
   -- what holds of every refusal, and of the steps, holds of the answer
   pub row-elim : (P : Answered → Type 0) → ((why : Refusal) → eqb (number why) 0 ≡ false → P (notAnswered why s lent))
-      → (Lent i lent → fits (asking (i .event)) (i .content) ≡ true → P (stepped s i lent (asking (i .event))))
+      → (LentWell i lent → fits (asking (i .event)) (i .content) ≡ true → P (stepped s i lent (asking (i .event))))
       → P (answered s i lent)
   row-elim P refused does = of by-table
     where

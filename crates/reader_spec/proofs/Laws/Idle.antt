@@ -20,7 +20,7 @@ use Rattle.reader_spec.specs.State.{State, stateOf}
 use Rattle.reader_spec.specs.Asking.{asking}
 use Rattle.reader_spec.specs.Sending.{Buffers}
 use Rattle.reader_spec.specs.Answering.{Input, Answered, answerSays, judged, stepped}
-use Rattle.reader_spec.specs.Sessions.{Execution, History, repeatsLast, asksFor, judgedNext, nextAs, next, isExecutedAs, isExecuted, remembers, StoreKept, Call, Done, ReaderSession, called, Idle, rests, passes}
+use Rattle.reader_spec.specs.Sessions.{Execution, History, repeatsLast, asksFor, judgedHistory, nextHistoryAs, nextHistory, isExecutedAs, isExecuted, remembers, StoreKept, Call, Done, ReaderSession, called, Idle, rests, passes}
 use Rattle.reader_spec.specs.Promises.{Same}
 use Rattle.reader_spec.proofs.Laws.Answering.{row-elim, steps-fine}
 use Rattle.reader_spec.proofs.Laws.Agreeing.{memoryOf, recalledAs, judgedAs, framed-told}
@@ -28,18 +28,18 @@ use Rattle.reader_spec.proofs.Laws.Sessions.{session-agrees, loose-call
 
 -- ---- such a call tells nothing new
 
-judged-nothing : (h : History) (i : Input) (k : Acceptance) → isAccepted k ≡ false → judgedNext h i k ≡ h
+judged-nothing : (h : History) (i : Input) (k : Acceptance) → isAccepted k ≡ false → judgedHistory h i k ≡ h
 judged-nothing h i (Refused fault) idle = refl
 judged-nothing h i (Accepted command) idle = absurd (true≢false idle)
 
-executes-nothing-as : (h : History) (i : Input) (asked : Asking) → isExecutedAs h i asked ≡ false → nextAs h i asked ≡ h
+executes-nothing-as : (h : History) (i : Input) (asked : Asking) → isExecutedAs h i asked ≡ false → nextHistoryAs h i asked ≡ h
 executes-nothing-as h i Nothing idle = refl
 executes-nothing-as h i Wrong idle = refl
 executes-nothing-as h i Right idle =
-    by-test (λ (t : Bool). (not t && isAccepted (asksFor h i)) ≡ false → cond t h (judgedNext h i (asksFor h i)) ≡ h)
+    by-test (λ (t : Bool). (not t && isAccepted (asksFor h i)) ≡ false → cond t h (judgedHistory h i (asksFor h i)) ≡ h)
     (repeatsLast h i) (λ _ _. refl) (λ _ n. judged-nothing h i (asksFor h i) n) idle
 
-pub executes-nothing : (h : History) (i : Input) → isExecuted h i ≡ false → next h i ≡ h
+pub executes-nothing : (h : History) (i : Input) → isExecuted h i ≡ false → nextHistory h i ≡ h
 executes-nothing h i = executes-nothing-as h i (asking (i .event))
 
 -- ---- and changes neither the state nor the store

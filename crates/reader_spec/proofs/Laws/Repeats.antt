@@ -18,7 +18,7 @@ use Rattle.reader_spec.specs.State.{stateOf}
 use Rattle.reader_spec.specs.Asking.{asking}
 use Rattle.reader_spec.specs.Replies.{replyImage, replyTo}
 use Rattle.reader_spec.specs.Answering.{Answered, replyBytes}
-use Rattle.reader_spec.specs.Sessions.{Execution, imageOf, History, repeatsLast, next, isExecuted, remembers, Call, Done, ReaderSession, Idle}
+use Rattle.reader_spec.specs.Sessions.{Execution, imageOf, History, repeatsLast, nextHistory, isExecuted, remembers, Call, Done, ReaderSession, Idle}
 use Rattle.reader_spec.specs.Promises.{Repeated}
 use Rattle.reader_spec.proofs.Laws.Sessions.{session-agrees, session-on, is-frame, is-new, is-accepted, call-executed, executed-sends, repeat-stored, loose-call}
 use Rattle.reader_spec.proofs.Laws.Idle.{idle-keeps}
@@ -26,7 +26,7 @@ use Rattle.reader_spec.proofs.Laws.Idle.{idle-keeps}
 module _ {s : Reader} {held : List ℕ} {h : History} (se : ReaderSession false s held h) (first : Call false h s held) (done : Done first)
     (does : isExecuted h (first .input) ≡ true) where
   abbrev i : History
-  i = next h (first .input)
+  i = nextHistory h (first .input)
 
   pub executed-repeats : {t : Reader} {kept : List ℕ} → Idle true i (first .answer .reader) (first .left .store) t kept
       → (again : Call true i t kept)

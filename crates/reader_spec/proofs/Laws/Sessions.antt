@@ -23,19 +23,19 @@ use Rattle.reader_spec.specs.State.{State, stateOf, freshState, badState
 use Rattle.reader_spec.specs.Asking.{asking}
 use Rattle.reader_spec.specs.Replies.{replyImage, replyTo}
 use Rattle.reader_spec.specs.Sending.{sent}
-use Rattle.reader_spec.specs.Answering.{PoweredOn, Input, Answered, Lent, answerSays, executed, stepped}
-use Rattle.reader_spec.specs.Sessions.{Execution, imageOf, History, begun, poweredBy, repeats, isFrame, bytesOf, repeatsLast, asksFor, next, nextBy, judgedReply, toSend, isRepeat, isExecuted, remembers, Call, Done, bytesSent, told, ReaderSession, made, powered, called}
+use Rattle.reader_spec.specs.Answering.{PoweredOn, Input, Answered, LentWell, answerSays, executed, stepped}
+use Rattle.reader_spec.specs.Sessions.{Execution, imageOf, History, begun, poweredBy, repeats, isFrame, bytesOf, repeatsLast, asksFor, nextHistory, nextHistoryBy, judgedReply, toSend, isRepeat, isExecuted, remembers, Call, Done, bytesSent, historyAfter, ReaderSession, begins, powered, called}
 use Rattle.reader_spec.specs.Promises.{Recalls}
 use Rattle.reader_spec.proofs.Laws.State.{readerWith, state-back}
 use Rattle.reader_spec.proofs.Laws.Answering.{powers-on, row-elim}
 use Rattle.reader_spec.proofs.Laws.Sending.{sent-store}
-use Rattle.reader_spec.proofs.Laws.Agreeing.{Fits, image-room, recalledAs, judgedAs, framed-told, Agrees, agrees-fresh, agrees-powered, agrees-good, agrees-lent, tells-step}
+use Rattle.reader_spec.proofs.Laws.Agreeing.{Fits, image-room, recalledAs, judgedAs, framed-told, Agrees, agrees-fresh, agrees-powered, agrees-good, agrees-lent, step-agrees}
 
 -- ---- every call of a session
 
 -- what a call leaves and sends
 record Follows (alone : Bool) (h : History) (i : Input) (a : Answered) : Type 0 where
-  agrees : Agrees alone (a .state) (a .left .store) (nextBy h i (a .refusal))
+  agrees : Agrees alone (a .state) (a .left .store) (nextHistoryBy h i (a .refusal))
   sends : a .refusal ≡ 0 → (isRepeat h i ≡ true → alone ≡ true) → sent (a .buffer) (a .length) (a .left) ≡ toSend h i
 
 call-follows : {alone : Bool} {h : History} {s : Reader} {held : List ℕ} → Agrees alone (stateOf s) held h → (c : Call alone h s held)
@@ -46,16 +46,16 @@ call-follows {alone} {h} {s} a c =
     subst⁻¹ (Follows alone h i) (c .says)
     (row-elim (stateOf s) i (c .lent) (Follows alone h i)
     (λ why bad. record { agrees = rw bad lent; sends = λ done. absurd (eqb-false (number why) 0 bad done) })
-    (λ well fine. let t = tells-step alone (stateOf s) i (c .lent) (c .whole) well (asking (i .event)) h lent in
+    (λ well fine. let t = step-agrees alone (stateOf s) i (c .lent) (c .whole) well (asking (i .event)) h lent in
     let a′ = stepped (stateOf s) i (c .lent) (asking (i .event)) in
     record {
-      agrees = subst⁻¹ (λ (n : ℕ). Agrees alone (a′ .state) (a′ .left .store) (nextBy h i n)) (t .none) (t .agrees);
+      agrees = subst⁻¹ (λ (n : ℕ). Agrees alone (a′ .state) (a′ .left .store) (nextHistoryBy h i n)) (t .none) (t .agrees);
       sends = λ _ own. t .sends own;
     }))
 
 pub session-agrees : {alone : Bool} {s : Reader} {held : List ℕ} {h : History} → ReaderSession alone s held h
     → Agrees alone (stateOf s) held h
-session-agrees {alone} (made r store is) = subst⁻¹ (λ (s : State). Agrees alone s store begun) is (agrees-fresh alone store)
+session-agrees {alone} (begins r store is) = subst⁻¹ (λ (s : State). Agrees alone s store begun) is (agrees-fresh alone store)
 session-agrees {alone} {held = held} (powered {s} {h = h} se r says) =
     let a = session-agrees se in
     subst⁻¹ (λ (p : PoweredOn). Agrees alone (p .state) held (poweredBy h (p .refusal))) (says ∙ powers-on (stateOf s) (agrees-good a))
@@ -68,13 +68,13 @@ loose-call c =
     record { input = c .input; lent = c .lent; answer = c .answer; left = c .left; kept = tt; whole = c .whole; says = c .says }
 
 pub loose : {alone : Bool} {s : Reader} {held : List ℕ} {h : History} → ReaderSession alone s held h → ReaderSession false s held h
-loose (made r store is) = made r store is
+loose (begins r store is) = begins r store is
 loose (powered se r says) = powered (loose se) r says
 loose (called se c) = called (loose se) (loose-call c)
 
 -- a session begins with a fresh reader
 pub fresh-session : {alone : Bool} (store : List ℕ) → ReaderSession alone (readerWith freshState) store begun
-fresh-session store = made (readerWith freshState) store (state-back freshState)
+fresh-session store = begins (readerWith freshState) store (state-back freshState)
 
 -- speed is 3..10 and the remembered length at most 130 in every state that is reached: no call finds a bad state
 pub session-good : {alone : Bool} {s : Reader} {held : List ℕ} {h : History} → ReaderSession alone s held h → badState (stateOf s) ≡ false
@@ -87,9 +87,9 @@ module _ {alone : Bool} {s : Reader} {held : List ℕ} {h : History} (se : Reade
     session-sends = call-follows (session-agrees se) c .sends done
 
     -- a call that was not refused goes on with what is told next
-    pub session-on : ReaderSession alone (c .answer .reader) (c .left .store) (next h (c .input))
+    pub session-on : ReaderSession alone (c .answer .reader) (c .left .store) (nextHistory h (c .input))
     session-on =
-        subst (λ (n : ℕ). ReaderSession alone (c .answer .reader) (c .left .store) (nextBy h (c .input) n)) done (called se c)
+        subst (λ (n : ℕ). ReaderSession alone (c .answer .reader) (c .left .store) (nextHistoryBy h (c .input) n)) done (called se c)
 
     -- to a CHECK NACK 1
     pub check-nacked : c .input .event ≡ CHECK → bytesSent c ≡ replyImage (identifierOf (c .input .content)) sign (NACK wrongCheck)
@@ -103,14 +103,14 @@ module _ {alone : Bool} {s : Reader} {held : List ℕ} {h : History} (se : Reade
 
     -- it did the steps, with good buffers
     pub call-steps : answerSays (c .answer) (c .left) ≡ stepped (stateOf s) (c .input) (c .lent) (asking (c .input .event))
-        × Lent (c .input) (c .lent)
+        × LentWell (c .input) (c .lent)
     call-steps =
         subst⁻¹ P (c .says)
         (row-elim (stateOf s) (c .input) (c .lent) P (λ why bad none. absurd (eqb-false (number why) 0 bad none)) (λ well fine none. (refl, well)))
         done
       where
         P : Answered → Type 0
-        P a = a .refusal ≡ 0 → a ≡ stepped (stateOf s) (c .input) (c .lent) (asking (c .input .event)) × Lent (c .input) (c .lent)
+        P a = a .refusal ≡ 0 → a ≡ stepped (stateOf s) (c .input) (c .lent) (asking (c .input .event)) × LentWell (c .input) (c .lent)
 
     module _ (asks : asking (c .input .event) ≡ Right) where
       pub call-framed : answerSays (c .answer) (c .left)

@@ -18,7 +18,7 @@ use Rattle.reader_spec.specs.declared.reader.Answer.{Answer}
 use Rattle.reader_spec.specs.State.{stateWith, stateOf}
 use Rattle.reader_spec.specs.Asking.{asking}
 use Rattle.reader_spec.specs.Sending.{BufferName, OUT, STORE, bufferNamed, Buffers}
-use Rattle.reader_spec.specs.Answering.{powering, poweredOn, Input, Answered, answerSays, Lent, Unfit, answered}
+use Rattle.reader_spec.specs.Answering.{powering, poweredOn, Input, Answered, answerSays, LentWell, Unfit, answered}
 use Rattle.reader_spec.specs.Sessions.{History, StoreKept, Call, Done, ReaderSession}
 use Rattle.reader_spec.proofs.Laws.State.{readerWith, state-back}
 use Rattle.reader_spec.proofs.Laws.Answering.{steps-fine, powers-on, does-steps, none-fit, row-elim}
@@ -77,7 +77,7 @@ call-some {s} i lent kept whole =
 
 -- and with good buffers and a content that fits it is not refused
 pub call-fine : {alone : Bool} {h : History} {s : Reader} {held : List ℕ} → ReaderSession alone s held h → (c : Call alone h s held)
-    → Lent (c .input) (c .lent)
+    → LentWell (c .input) (c .lent)
     → (Unfit (c .input) → ⊥)
     → Done c
 call-fine {s} se c well fit =

@@ -12,7 +12,7 @@ use Rattle.reader_spec.specs.declared.reader.Memory.{Memory}
 use Rattle.reader_spec.specs.declared.reader.Memory.the-variants as memory
 use Rattle.reader_spec.specs.declared.reader.Reader.{Reader}
 use Rattle.reader_spec.specs.Limits.{room}
-use Rattle.reader_spec.specs.State.{Last, State, remembered, stateOf, tooFar, badState, BadState, tooSlow, tooFast, tooLong}
+use Rattle.reader_spec.specs.State.{Last, State, remembered, stateOf, tooFar, badState, BadState, speedUnder, speedOver, lengthOver}
 
 -- ---- a reader and its state
 
@@ -47,9 +47,9 @@ state-back s = λ i. record { parameters = s .parameters; last = of (s .last) i 
 -- ---- row 4, both ways
 
 pub bad-state : {s : State} → BadState s → badState s ≡ true
-bad-state {s} (tooSlow slow) = rw (lt-leb 3 (s .parameters .speed) slow)
-bad-state {s} (tooFast fast) = rw (lt-leb (s .parameters .speed) 10 fast, and-false (leb 3 (s .parameters .speed)))
-bad-state {s} (tooLong {last} is far) = rw (is, lt-ltb room (last .length) far, or-true (not (isSpeed (s .parameters .speed))))
+bad-state {s} (speedUnder slow) = rw (lt-leb 3 (s .parameters .speed) slow)
+bad-state {s} (speedOver fast) = rw (lt-leb (s .parameters .speed) 10 fast, and-false (leb 3 (s .parameters .speed)))
+bad-state {s} (lengthOver {last} is far) = rw (is, lt-ltb room (last .length) far, or-true (not (isSpeed (s .parameters .speed))))
 
 pub bad-row : (s : State) → badState s ≡ true → BadState s
 bad-row s bad = or-elim (not (isSpeed (s .parameters .speed))) (tooFar (s .last)) speed (far (s .last) refl) bad
@@ -59,12 +59,12 @@ bad-row s bad = or-elim (not (isSpeed (s .parameters .speed))) (tooFar (s .last)
         let v = s .parameters .speed in
         by-test (λ (t : Bool). not (t && leb v 10) ≡ true → BadState s) (leb 3 v)
         (λ _. by-test (λ (t : Bool). not t ≡ true → BadState s) (leb v 10) (λ _ never. absurd (false≢true never))
-        (λ f _. tooFast (leb-false v 10 f)))
-        (λ f _. tooSlow (leb-false 3 v f))
+        (λ f _. speedOver (leb-false v 10 f)))
+        (λ f _. speedUnder (leb-false 3 v f))
 
     far : (last : Option Last) → s .last ≡ last → tooFar last ≡ true → BadState s
     far none is over = absurd (false≢true over)
-    far (some last) is over = tooLong is (ltb-true room (last .length) over)
+    far (some last) is over = lengthOver is (ltb-true room (last .length) over)
 
 -- so a state is good just where no row is met
 pub good-state : {s : State} → badState s ≡ false → BadState s → ⊥

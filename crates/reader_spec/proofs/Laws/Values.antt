@@ -24,7 +24,7 @@ use Rattle.reader_spec.specs.declared.reader.Reader.{Reader}
 use Rattle.reader_spec.specs.Asking.{asking}
 use Rattle.reader_spec.specs.Replies.{replyImage, replyTo}
 use Rattle.reader_spec.specs.Answering.{Input}
-use Rattle.reader_spec.specs.Sessions.{History, repeatsLast, asksFor, valuesAfter, judgedNext, nextAs, next, isExecuted, Call, Done, bytesSent, ReaderSession, powered, called, Unwritten, still, power, other}
+use Rattle.reader_spec.specs.Sessions.{History, repeatsLast, asksFor, valuesAfter, judgedHistory, nextHistoryAs, nextHistory, isExecuted, Call, Done, bytesSent, ReaderSession, powered, called, Unwritten, still, power, other}
 use Rattle.reader_spec.specs.Promises.{KeptValue}
 use Rattle.reader_spec.proofs.Laws.Sessions.{session-on, is-frame, is-new, executed-sends}
 use Rattle.reader_spec.proofs.Laws.Idle.{executes-nothing}
@@ -41,19 +41,19 @@ module _ (p : Parameter) (h : History) (i : Input) where
   values-kept (Read q) not = refl
   values-kept (Command.Card card) not = refl
 
-  judged-kept : (k : Acceptance) → (k ≡ Accepted (Write p) → ⊥) → judgedNext h i k .value p ≡ h .value p
+  judged-kept : (k : Acceptance) → (k ≡ Accepted (Write p) → ⊥) → judgedHistory h i k .value p ≡ h .value p
   judged-kept (Refused fault) not = refl
   judged-kept (Accepted command) not = values-kept command not
 
-  value-kept : (asked : Asking) → (asksFor h i ≡ Accepted (Write p) → ⊥) → nextAs h i asked .value p ≡ h .value p
+  value-kept : (asked : Asking) → (asksFor h i ≡ Accepted (Write p) → ⊥) → nextHistoryAs h i asked .value p ≡ h .value p
   value-kept Nothing not = refl
   value-kept Wrong not = refl
   value-kept Right not =
       cond-elim (λ (k : History). k .value p ≡ h .value p) (repeatsLast h i) (λ _. refl) (λ _. judged-kept (asksFor h i) not)
 
-  next-kept : (isExecuted h i ≡ true → asksFor h i ≡ Accepted (Write p) → ⊥) → next h i .value p ≡ h .value p
+  next-kept : (isExecuted h i ≡ true → asksFor h i ≡ Accepted (Write p) → ⊥) → nextHistory h i .value p ≡ h .value p
   next-kept idle =
-      by-test (λ _. next h i .value p ≡ h .value p) (isExecuted h i) (λ e. value-kept (asking (i .event)) (idle e))
+      by-test (λ _. nextHistory h i .value p ≡ h .value p) (isExecuted h i) (λ e. value-kept (asking (i .event)) (idle e))
       (λ e. ap (λ (k : History). k .value p) (executes-nothing h i e))
 
 -- so does every sequence of such calls and of power-ons
@@ -92,7 +92,7 @@ pub written-read : {alone : Bool} {s t : Reader} {held kept : List ℕ} {h k : H
     → Done writes
     → isExecuted h (writes .input) ≡ true
     → asksFor h (writes .input) ≡ Accepted (Write p)
-    → Unwritten alone p (writes .answer .reader) (writes .left .store) (next h (writes .input)) t kept k
+    → Unwritten alone p (writes .answer .reader) (writes .left .store) (nextHistory h (writes .input)) t kept k
     → (reads : Call alone k t kept)
     → Done reads
     → isExecuted k (reads .input) ≡ true
@@ -101,7 +101,7 @@ pub written-read : {alone : Bool} {s t : Reader} {held kept : List ℕ} {h k : H
     ≡ replyImage (identifierOf (reads .input .content)) (commandOf (reads .input .content)) (DATA (drop 1 (dataOf (writes .input .content))))
 written-read {h = h} {p = p} se writes done does asked later reads done′ does′ asked′ =
     let v = unwritten-value (session-on se writes done) later in
-    let value : next h (writes .input) .value p ≡ drop 1 (dataOf (writes .input .content)) =
+    let value : nextHistory h (writes .input) .value p ≡ drop 1 (dataOf (writes .input .content)) =
     rw (is-frame se writes done does, is-new se writes done does, asked, eq-eqb (parameterCode p) (parameterCode p) refl) refl in
     read-answers (v .session) reads done′ does′ asked′
     ∙ ap (λ (l : List ℕ). replyImage (identifierOf (reads .input .content)) (commandOf (reads .input .content)) (DATA l)) (v .value ∙ value)
