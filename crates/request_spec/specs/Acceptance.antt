@@ -16,7 +16,7 @@ use Rattle.request_spec.specs.declared.command.Acceptance.{Acceptance}
 use Rattle.request_spec.specs.declared.command.Acceptance.the-variants.{Accepted, Refused}
 use Rattle.request_spec.specs.declared.command.Fault.{Fault}
 use Rattle.request_spec.specs.declared.command.Fault.the-variants.{UnknownCode, BadData}
-use Rattle.request_spec.specs.Parameters.{parameterCode, parameterWith, isValueOf}
+use Rattle.request_spec.specs.Parameters.{parameterCode, parameterWith, isValueOf, IsValue}
 
 -- the code of each command
 abbrev pub commandCode : Command → ℕ
@@ -98,7 +98,7 @@ FitsCommand (Card card) «data» = Unit {0}
 -- accepts, and that it accepts no other.
 pub data Accepts : ℕ → List ℕ → Command → Type 0 where
   header : Accepts 0x00 [] Header
-  write : (p : Parameter) (value : List ℕ) → isValueOf p value ≡ true → Accepts 0x01 (parameterCode p ∷ value) (Write p)
+  write : (p : Parameter) (value : List ℕ) → IsValue p value → Accepts 0x01 (parameterCode p ∷ value) (Write p)
   read : (p : Parameter) → Accepts 0x02 (parameterCode p ∷ []) (Read p)
   marin : Accepts 0x10 [] (Card Marin)
   hid : Accepts 0x14 [] (Card Hid)

@@ -1,8 +1,9 @@
 -- The reader's three parameters.
 -- 01, The point reader, 'State' and the table; 003, 'Параметры считывателя'. Assumes nothing.
-use Prim.Native.Nat.{ℕ}
+use Prim.Native.Nat.{ℕ, _≤_}
+use mathlib.Core.Path.{_≡_}
 use mathlib.Core.Bool.{Bool, true, cond, _&&_}
-use mathlib.Core.List.{List}
+use mathlib.Core.List.{List, [], _∷_}
 use lib.Dec.{eqb, leb}
 use lib.ListN.{length, getD}
 use Rattle.request_spec.specs.declared.parameter.Parameter.{Parameter}
@@ -42,3 +43,9 @@ within Cell value = true
 -- a value of exactly its length; for 02 a value 3..10
 unfoldable pub isValueOf : Parameter → List ℕ → Bool
 isValueOf p value = eqb (length value) (lengthOf p) && within p value
+
+-- the same as a table: 02 has 1 byte, 3..10; 05 has 4 bytes; 80 has 8 bytes
+pub data IsValue : Parameter → List ℕ → Type 0 where
+  ofSpeed : {v : ℕ} → 3 ≤ v → v ≤ 10 → IsValue Speed (v ∷ [])
+  ofSettings : {value : List ℕ} → length value ≡ 4 → IsValue Settings value
+  ofCell : {value : List ℕ} → length value ≡ 8 → IsValue Cell value

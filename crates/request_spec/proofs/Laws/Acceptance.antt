@@ -24,7 +24,7 @@ use Rattle.request_spec.specs.declared.command.Acceptance.the-variants.{
 use Rattle.request_spec.specs.declared.command.Fault.the-variants.{UnknownCode, BadData}
 use Rattle.request_spec.specs.Parameters.{parameterCode, parameterWith, isValueOf}
 use Rattle.request_spec.specs.Acceptance.{bareAccepted, writeAcceptedTo, writeAccepted, readAcceptedFrom, readAccepted, isKnown, acceptance, commandCode, Judgement, byCode, byCodes, byNumber, judgement, FitsCommand, Accepts, header, write, read, marin, hid, motorola}
-use Rattle.request_spec.proofs.Laws.Parameters.{takes-length, lengthOf-most}
+use Rattle.request_spec.proofs.Laws.Parameters.{takes-length, lengthOf-most, value-is}
 
 -- ---- data as the code reads it: by its length and its places
 
@@ -99,7 +99,7 @@ write-row (code ∷ value) = of (parameterWith code) (parameter-named code)
     of coded.Unknown named = tt
     of (Known p) named =
         cond-elim (Row 0x01 (code ∷ value)) (isValueOf p value)
-        (λ taken. subst⁻¹ (λ (k : ℕ). Accepts 0x01 (k ∷ value) (Write p)) named (write p value taken)) (λ _. tt)
+        (λ taken. subst⁻¹ (λ (k : ℕ). Accepts 0x01 (k ∷ value) (Write p)) named (write p value (value-is p value .0 taken))) (λ _. tt)
 
 read-row : («data» : List ℕ) → Row 0x02 «data» (readAccepted «data»)
 read-row [] = tt
@@ -149,7 +149,7 @@ module _ (code : ℕ) («data» : List ℕ) where
 pub accepted : {code : ℕ} {«data» : List ℕ} {command : Command} → Accepts code «data» command → acceptance code «data» ≡ Accepted command
 unfolding acceptance
 accepted header = refl
-accepted (write p value taken) = simp (parameter-with p, taken)
+accepted (write p value fits) = simp (parameter-with p, value-is p value .1 fits)
 accepted (read p) = simp (parameter-with p)
 accepted marin = refl
 accepted hid = refl
@@ -158,7 +158,7 @@ accepted motorola = refl
 -- so data that is accepted is short, and a write's data is what it says
 pub accepted-short : {code : ℕ} {«data» : List ℕ} {command : Command} → Accepts code «data» command → length «data» ≤ mostData
 accepted-short header = omega arith
-accepted-short (write p value taken) = omega (arith, takes-length p value taken, lengthOf-most p)
+accepted-short (write p value fits) = omega (arith, takes-length p value (value-is p value .1 fits), lengthOf-most p)
 accepted-short (read p) = omega arith
 accepted-short marin = omega arith
 accepted-short hid = omega arith
@@ -166,7 +166,7 @@ accepted-short motorola = omega arith
 
 pub carries : {code : ℕ} {«data» : List ℕ} {command : Command} → Accepts code «data» command → FitsCommand command «data»
 carries header = tt
-carries (write p value taken) = (omega arith, taken)
+carries (write p value fits) = (omega arith, value-is p value .1 fits)
 carries (read p) = tt
 carries marin = tt
 carries hid = tt
@@ -175,7 +175,7 @@ carries motorola = tt
 -- each command has its code
 pub accepted-code : {code : ℕ} {«data» : List ℕ} {command : Command} → Accepts code «data» command → code ≡ commandCode command
 accepted-code header = refl
-accepted-code (write p value taken) = refl
+accepted-code (write p value fits) = refl
 accepted-code (read p) = refl
 accepted-code marin = refl
 accepted-code hid = refl

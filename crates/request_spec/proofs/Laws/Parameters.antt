@@ -2,15 +2,17 @@
 -- Assumes nothing.
 use mathlib.Core.Path.{_≡_, refl, sym, ap, _∙_}
 use mathlib.Core.Bool.{true, false, true≢false, and-eq-true-iff}
-use mathlib.Core.List.{List}
+use mathlib.Core.List.{List, [], _∷_}
+use mathlib.Core.Logic.{_↔_}
 use Prim.Native.Nat.{ℕ, _≤_, _<_}
 use native.Mathlib.Omega.{arith}
 use lib.Dec.{eqb}
 use lib.ListN.{length}
 use borrow.Author.Tests.{eqb-true, eq-eqb, ne-eqb}
+use Rattle.ground.proofs.Laws.Choice.{between-true, between-is}
 use Rattle.request_spec.specs.declared.parameter.Parameter.{Parameter}
 use Rattle.request_spec.specs.declared.parameter.Parameter.the-variants.{Speed, Settings, Cell}
-use Rattle.request_spec.specs.Parameters.{parameterCode, lengthOf, within, isValueOf}
+use Rattle.request_spec.specs.Parameters.{parameterCode, lengthOf, within, isValueOf, IsValue, ofSpeed, ofSettings, ofCell}
 
 -- a value has 1 to 8 bytes
 pub lengthOf-least : (p : Parameter) → 0 < lengthOf p
@@ -45,6 +47,23 @@ pub value-sized : {n : ℕ} {p q : Parameter} (value : List ℕ) → p ≡ q →
 unfolding isValueOf
 value-sized {p} value same long whole =
     ap (λ (r : Parameter). within r value) (sym same) ∙ rw (eq-eqb (length value) (lengthOf p) (whole ∙ long))
+
+-- a value is one by the table
+pub value-is : (p : Parameter) (value : List ℕ) → (isValueOf p value ≡ true) ↔ IsValue p value
+unfolding isValueOf
+value-is p value = (λ taken. of p value (takes-length p value taken) (takes-within p value taken), back)
+  where
+    of : (q : Parameter) (v : List ℕ) → length v ≡ lengthOf q → within q v ≡ true → IsValue q v
+    of Speed [] long fits = absurd (omega arith)
+    of Speed (v ∷ []) long fits = let (least, most) = between-true 3 10 v fits in ofSpeed least most
+    of Speed (v ∷ w ∷ more) long fits = absurd (omega arith)
+    of Settings v long fits = ofSettings long
+    of Cell v long fits = ofCell long
+
+    back : {q : Parameter} {v : List ℕ} → IsValue q v → isValueOf q v ≡ true
+    back (ofSpeed {v} least most) = between-is 3 10 v least most
+    back (ofSettings {value} long) = rw (eq-eqb (length value) 4 long)
+    back (ofCell {value} long) = rw (eq-eqb (length value) 8 long)
 
 -- a code belongs to one parameter
 pub same-code : (p q : Parameter) → eqb (parameterCode p) (parameterCode q) ≡ true → p ≡ q

@@ -130,7 +130,7 @@ module _ (identifier code : ℕ) («data» : List ℕ) (command : Command) (aske
 code-is : {code : ℕ} {«data» : List ℕ} {command : Command} → Accepts code «data» command
     → (isWrite command ≡ eqb code 0x01) × (eqb code sign ≡ false)
 code-is header = (refl, refl)
-code-is (write p value taken) = (refl, refl)
+code-is (write p value fits) = (refl, refl)
 code-is (read p) = (refl, refl)
 code-is marin = (refl, refl)
 code-is hid = (refl, refl)
@@ -142,7 +142,7 @@ of-length {code} {«data»} {m} n due is = subst⁻¹ (Due code «data») (eqb-t
 
 due-only : {code : ℕ} {«data» : List ℕ} {command : Command} (n : ℕ) → Accepts code «data» command → isDue command n ≡ true → Due code «data» n
 due-only n header is = of-length n forHeader is
-due-only n (write p value taken) is = absurd (false≢true is)
+due-only n (write p value fits) is = absurd (false≢true is)
 due-only n (read Speed) is = of-length n forSpeed is
 due-only n (read Settings) is = of-length n forSettings is
 due-only n (read Cell) is = of-length n forCell is
