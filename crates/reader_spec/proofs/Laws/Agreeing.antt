@@ -22,7 +22,7 @@ use Rattle.request_spec.specs.Limits.{headerLength}
 use Rattle.request_spec.specs.Parameters.{lengthOf, isSpeed}
 use Rattle.request_spec.specs.Acceptance.{acceptance, nackOf, FitsCommand}
 use Rattle.request_spec.specs.Replies.{NACK, sign, dataIn, identifierOf, commandOf, dataOf, wrongCheck}
-use Rattle.request_spec.proofs.Laws.Acceptance.{accepts, carries}
+use Rattle.request_spec.proofs.Laws.Acceptance.{accepts, fits-command}
 use Rattle.reader_spec.specs.declared.reader.Asking.{Asking}
 use Rattle.reader_spec.specs.declared.reader.Asking.the-variants.{Nothing, Wrong, Right}
 use Rattle.reader_spec.specs.declared.reader.Repeat.the-variants.{New, Stored}
@@ -193,7 +193,7 @@ module _ (alone : Bool) (s : State) (i : Input) (lent : Buffers) (whole : length
         → StepAgrees alone (judgedHistory (known (valueOf (s .parameters))) i k)
         (bytesOf (i .content) (some (judgedReply (known (valueOf (s .parameters))) i k))) false (judged s i lent k)
     judged-agrees (Refused fault) asked a = nack-agrees (identifierOf (i .content)) (nackOf fault) a
-    judged-agrees (Accepted command) asked a = executed-agrees command (carries (accepts (commandOf (i .content)) (dataOf (i .content)) asked)) a
+    judged-agrees (Accepted command) asked a = executed-agrees command (fits-command (accepts (commandOf (i .content)) (dataOf (i .content)) asked)) a
 
   recalled-agrees : (value : Parameter → List ℕ) (last : Option Execution)
       → repeats last (identifierOf (i .content)) (commandOf (i .content)) ≡ true

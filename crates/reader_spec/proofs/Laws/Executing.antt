@@ -18,7 +18,7 @@ use Rattle.request_spec.specs.Parameters.{parameterCode, lengthOf, isSpeed}
 use Rattle.request_spec.specs.Cards.{isCode}
 use Rattle.request_spec.specs.Acceptance.{FitsCommand}
 use Rattle.request_spec.specs.Replies.{Reply, dataIn}
-use Rattle.request_spec.proofs.Laws.Parameters.{takes-length, takes-within, value-length, lengthOf-most, same-code}
+use Rattle.request_spec.proofs.Laws.Parameters.{value-sizes, value-within, value-length, lengthOf-most, same-code}
 use Rattle.reader_spec.specs.declared.reader.Parameters.{Parameters}
 use Rattle.reader_spec.specs.Parameters.{valueOf, doneTo}
 use Rattle.reader_spec.specs.Replies.{replyTo}
@@ -30,7 +30,7 @@ module _ (ps : Parameters) («data» : List ℕ) where
       → valueOf (doneTo ps command «data») ≡ valuesAfter (valueOf ps) command «data»
   done-values Command.Header carried = refl
   done-values (Command.Write p) carried =
-      let whole = takes-length p (drop 1 «data») (carried .1) in
+      let whole = value-sizes p (drop 1 «data») (carried .1) in
       λ i q. value-written ps p (drop 1 «data») whole q i
   done-values (Command.Read p) carried = refl
   done-values (Command.Card card) carried = refl
@@ -38,7 +38,7 @@ module _ (ps : Parameters) («data» : List ℕ) where
   pub done-speed : (command : Command) → FitsCommand command «data» → isSpeed (ps .speed) ≡ true
       → isSpeed (doneTo ps command «data» .speed) ≡ true
   done-speed Command.Header carried good = good
-  done-speed (Command.Write Speed) carried good = takes-within Speed (drop 1 «data») (carried .1)
+  done-speed (Command.Write Speed) carried good = value-within Speed (drop 1 «data») (carried .1)
   done-speed (Command.Write Settings) carried good = good
   done-speed (Command.Write Cell) carried good = good
   done-speed (Command.Read p) carried good = good

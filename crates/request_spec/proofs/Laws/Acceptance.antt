@@ -24,7 +24,7 @@ use Rattle.request_spec.specs.declared.command.Acceptance.the-variants.{
 use Rattle.request_spec.specs.declared.command.Fault.the-variants.{UnknownCode, BadData}
 use Rattle.request_spec.specs.Parameters.{parameterCode, parameterWith, isValueOf}
 use Rattle.request_spec.specs.Acceptance.{bareAccepted, writeAcceptedTo, writeAccepted, readAcceptedFrom, readAccepted, isKnown, acceptance, commandCode, Judgement, byCode, byCodes, byNumber, judgement, FitsCommand, Accepts, header, write, read, marin, hid, motorola}
-use Rattle.request_spec.proofs.Laws.Parameters.{takes-length, lengthOf-most, value-is}
+use Rattle.request_spec.proofs.Laws.Parameters.{value-sizes, lengthOf-most, value-is}
 
 -- ---- data as the code reads it: by its length and its places
 
@@ -158,19 +158,19 @@ accepted motorola = refl
 -- so data that is accepted is short, and a write's data is what it says
 pub accepted-short : {code : ℕ} {«data» : List ℕ} {command : Command} → Accepts code «data» command → length «data» ≤ mostData
 accepted-short header = omega arith
-accepted-short (write p value fits) = omega (arith, takes-length p value (value-is p value .1 fits), lengthOf-most p)
+accepted-short (write p value fits) = omega (arith, value-sizes p value (value-is p value .1 fits), lengthOf-most p)
 accepted-short (read p) = omega arith
 accepted-short marin = omega arith
 accepted-short hid = omega arith
 accepted-short motorola = omega arith
 
-pub carries : {code : ℕ} {«data» : List ℕ} {command : Command} → Accepts code «data» command → FitsCommand command «data»
-carries header = tt
-carries (write p value fits) = (omega arith, value-is p value .1 fits)
-carries (read p) = tt
-carries marin = tt
-carries hid = tt
-carries motorola = tt
+pub fits-command : {code : ℕ} {«data» : List ℕ} {command : Command} → Accepts code «data» command → FitsCommand command «data»
+fits-command header = tt
+fits-command (write p value fits) = (omega arith, value-is p value .1 fits)
+fits-command (read p) = tt
+fits-command marin = tt
+fits-command hid = tt
+fits-command motorola = tt
 
 -- each command has its code
 pub accepted-code : {code : ℕ} {«data» : List ℕ} {command : Command} → Accepts code «data» command → code ≡ commandCode command

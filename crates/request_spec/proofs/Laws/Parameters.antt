@@ -26,17 +26,17 @@ lengthOf-most Settings = omega arith
 lengthOf-most Cell = omega arith
 
 -- a parameter's value has its length, and for the speed is 3..10
-pub takes-length : (p : Parameter) (value : List ℕ) → isValueOf p value ≡ true → length value ≡ lengthOf p
+pub value-sizes : (p : Parameter) (value : List ℕ) → isValueOf p value ≡ true → length value ≡ lengthOf p
 unfolding isValueOf
-takes-length p value taken =
+value-sizes p value taken =
     eqb-true (length value) (lengthOf p) (and-eq-true-iff (eqb (length value) (lengthOf p)) (within p value) .0 taken .0)
 
-pub takes-within : (p : Parameter) (value : List ℕ) → isValueOf p value ≡ true → within p value ≡ true
+pub value-within : (p : Parameter) (value : List ℕ) → isValueOf p value ≡ true → within p value ≡ true
 unfolding isValueOf
-takes-within p value taken = and-eq-true-iff (eqb (length value) (lengthOf p)) (within p value) .0 taken .1
+value-within p value taken = and-eq-true-iff (eqb (length value) (lengthOf p)) (within p value) .0 taken .1
 
 pub value-length : {p q : Parameter} (value : List ℕ) → p ≡ q → isValueOf p value ≡ true → length value ≡ lengthOf q
-value-length {p} value same taken = takes-length p value taken ∙ ap lengthOf same
+value-length {p} value same taken = value-sizes p value taken ∙ ap lengthOf same
 
 -- the length is tried first
 pub value-other : {n : ℕ} (p : Parameter) (value : List ℕ) → n ≡ lengthOf p → (length value ≡ n → ⊥) → false ≡ isValueOf p value
@@ -51,7 +51,7 @@ value-sized {p} value same long whole =
 -- a value is one by the table
 pub value-is : (p : Parameter) (value : List ℕ) → (isValueOf p value ≡ true) ↔ IsValue p value
 unfolding isValueOf
-value-is p value = (λ taken. of p value (takes-length p value taken) (takes-within p value taken), back)
+value-is p value = (λ taken. of p value (value-sizes p value taken) (value-within p value taken), back)
   where
     of : (q : Parameter) (v : List ℕ) → length v ≡ lengthOf q → within q v ≡ true → IsValue q v
     of Speed [] long fits = absurd (omega arith)

@@ -6,7 +6,7 @@ use borrow.Author.Needs.{needs}
 use Rattle.ground.proofs.Laws.Lists.{take-rest}
 use Rattle.request_spec.specs.declared.command.Acceptance.the-variants.{Accepted, Refused}
 use Rattle.request_spec.specs.Replies.{NACK, sign, identifierOf, commandOf}
-use Rattle.request_spec.proofs.Laws.Acceptance.{accepts, carries, judged-as}
+use Rattle.request_spec.proofs.Laws.Acceptance.{accepts, fits-command, judged-as}
 use Rattle.reader_spec.specs.declared.reader.Repeat.the-variants.{Stored}
 use Rattle.reader_spec.specs.Replies.{replyContent}
 use Rattle.reader_spec.proofs.Laws.Answering.{framed-by}
@@ -69,7 +69,7 @@ execute-requires : tie.Need-execute-requires
 execute-requires c κs =
     let d = c .before .before .before .before .before in
     let a = d .before .before .before .before .before .before .before .before .before .before .before in (
-      carries (accepts (commandOf (a .args .content .now)) _
+      fits-command (accepts (commandOf (a .args .content .now)) _
           (judged-as (commandOf (a .args .content .now)) _ (d .accept .ensures) (c .before .before .before .acceptance .given .1))),
       a .pre .1,
     )
