@@ -22,7 +22,7 @@ use Rattle.link_spec.specs.Address.{isStation, takes}
 use Rattle.link_spec.specs.Frame.{pointContent, addressedContent}
 use Rattle.link_spec.specs.Writers.{pointWritten, addressedWritten}
 use Rattle.link_spec.specs.Events.{NONE, FRAME}
-use Rattle.link_spec.specs.Receiving.{received}
+use Rattle.link_spec.specs.Receiving.{freshMade, received}
 use Rattle.link_spec.specs.Hearing.{Told, toldAt, IsFresh, Hearing}
 use Rattle.link_spec.specs.Listing.{Lists}
 use Rattle.request_spec.specs.declared.parameter.Parameter.{Parameter}
@@ -61,6 +61,7 @@ pub record Demand1 : Type 0 where
   pub point : (identifier command : ℕ) («data» : List ℕ) → Writer (pointWritten identifier command «data»)
   pub addressed : (address identifier command : ℕ) («data» : List ℕ) → Writer (addressedWritten address identifier command «data»)
   pub request : (identifier code : ℕ) («data» : List ℕ) → Writer (requestWritten identifier code «data»)
+  pub station : (own : ℕ) (piece : List ℕ) → (freshMade own .refusal ≡ 0 → ⊥) → received (freshMade own .receiver) piece .refusal ≡ 4
   pub receiver : (s : Receiver) (piece : List ℕ) → let a = received s piece in
       Keeps (a .refusal) s (a .receiver) × AnswersOnly (a .refusal) NONE (a .event) × AnswersOnly (a .refusal) 0 (a .length) × AnswersOnly (a .refusal) 0 (a .taken)
   pub reader : (s : State) (i : Input) (lent : Buffers) → let a = answered s i lent in

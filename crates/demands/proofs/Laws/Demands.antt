@@ -21,7 +21,7 @@ use Rattle.tape_spec.specs.Whole.{parts, entries, freshReceivers}
 use Rattle.tape_spec.proofs.Laws.Taping.{listed-keeps}
 use Rattle.tape_spec.proofs.Laws.Sessions.{listing-shows, listing-some}
 use Rattle.demands.specs.Demands.{Demand1, Demand2, Demand3}
-use Rattle.demands.proofs.Laws.Refusing.{put-stops, length-counts, frame-counts, point-counts, addressed-counts, request-counts, received-silent, reply-meaningless, listed-counts}
+use Rattle.demands.proofs.Laws.Refusing.{put-stops, length-counts, frame-counts, point-counts, addressed-counts, request-counts, new-refused, received-silent, reply-meaningless, listed-counts}
 use Rattle.demands.proofs.Laws.Exchange.{exchange}
 use Rattle.demands.proofs.Laws.Requests.{request-executed, request-nacked}
 
@@ -34,6 +34,7 @@ demand-1 =
       point = λ identifier command «data» out. (point-keeps identifier command «data» out, point-counts identifier command «data» out);
       addressed = λ address identifier command «data» out. (addressed-keeps address identifier command «data» out, addressed-counts address identifier command «data» out);
       request = λ identifier code «data» out. (request-keeps identifier code «data» out, request-counts identifier code «data» out);
+      station = new-refused;
       receiver = λ s piece. let silent = received-silent s piece in (received-keeps s piece, silent .0, silent .1, silent .2);
       reader = answered-keeps;
       power = powered-keeps;

@@ -1,7 +1,7 @@
 -- A refused call answers count 0, no event, an empty part: the statements' refusals one by one.
 -- Assumes nothing.
 use mathlib.Core.Path.{_≡_, refl}
-use mathlib.Core.Bool.{Bool, false, cond}
+use mathlib.Core.Bool.{Bool, false, cond, not}
 use mathlib.Core.List.{List, _++_}
 use mathlib.Core.Option.{none}
 use Prim.Native.Nat.{ℕ, _-_}
@@ -17,12 +17,13 @@ use Rattle.wire_spec.specs.Limits.{mostContent}
 use Rattle.wire_spec.specs.Image.{image}
 use Rattle.wire_spec.specs.Writing.{After, lengthAsked, imageWritten, imageAsked, frameWritten}
 use Rattle.link_spec.specs.declared.receiver.Receiver.{Receiver}
+use Rattle.link_spec.specs.declared.station.Station.the-variants.{Addressed}
 use Rattle.link_spec.specs.Limits.{mostData}
-use Rattle.link_spec.specs.Address.{isNever}
+use Rattle.link_spec.specs.Address.{isNever, isStation}
 use Rattle.link_spec.specs.Frame.{pointContent, addressedContent}
 use Rattle.link_spec.specs.Writers.{writtenUnless, pointWritten, addressedWritten}
 use Rattle.link_spec.specs.Events.{NONE}
-use Rattle.link_spec.specs.Receiving.{badReceiver, notHeard, heard, Said, received}
+use Rattle.link_spec.specs.Receiving.{freshReceiver, freshMade, badReceiver, notHeard, heard, Said, received}
 use Rattle.link_spec.proofs.Laws.Receiving.{refused-only}
 use Rattle.request_spec.specs.declared.command.Command.{Command}
 use Rattle.request_spec.specs.declared.command.Acceptance.{Acceptance}
@@ -97,6 +98,15 @@ received-silent s piece =
     (badReceiver s) (λ bad is. ((λ refused. refl), (λ refused. refl), (λ refused. refl)))
     (λ good none. ((λ refused. absurd (refused none)), (λ refused. absurd (refused none)), (λ refused. absurd (refused none))))
     (refused-only s piece)
+
+-- a receiver that comes with the refusal of a new station is refused by every call
+pub new-refused : (own : ℕ) (piece : List ℕ) → (freshMade own .refusal ≡ 0 → ⊥) → received (freshMade own .receiver) piece .refusal ≡ 4
+unfolding freshMade received
+new-refused own piece =
+    by-test
+    (λ (t : Bool). (_≡_ {A = ℕ} (cond t 0 3) 0 → ⊥)
+    → cond (not t) (notHeard (freshReceiver (Addressed own))) (heard 0 (freshReceiver (Addressed own)) piece) .refusal ≡ 4)
+    (isStation own) (λ is refused. absurd (refused refl)) (λ other refused. refl)
 
 -- ---- no meaning
 

@@ -14,8 +14,8 @@ pub same : {A : Type 0} {r s t : A} → r ≡ t → s ≡ t → r ≡ s
 same p q = p ∙ sym q
 
 -- of a call that answers a count or a refusal
-pub same-answer : {r s : Counted} {t : Tally} → tally r ≡ t → tally s ≡ t → r ≡ s
-same-answer {r} {s} p q =
+pub same-tally : {r s : Counted} {t : Tally} → tally r ≡ t → tally s ≡ t → r ≡ s
+same-tally {r} {s} p q =
     let e : tally r ≡ tally s = same p q in
     let why = number-injective (r .refusal) (s .refusal) (ap (λ (a : Tally). a .refusal) e) in
     λ i. record { refusal = why i; count = e i .count }

@@ -49,7 +49,7 @@ module _ (P : ℕ → Receiver → List ℕ → Said → Type 0)
 
 -- ---- row 4 of the refusal table: when, and else the piece is heard
 
-bad-is : (s : Receiver) → (badReceiver s ≡ true) ↔ BadReceiver s
+pub bad-is : (s : Receiver) → (badReceiver s ≡ true) ↔ BadReceiver s
 bad-is s = (
   or-elim (ltb mostContent (s .count)) (not (hasAddress (s .station))) (λ t. over (ltb-true mostContent (s .count) t))
       (λ t. of (s .station) refl (not-true (hasAddress (s .station)) t)),
@@ -65,14 +65,6 @@ bad-is s = (
     back (noStation {own} is bad) = rw (is, no-station-is own .1 bad, or-true)
 
 module _ (s : Receiver) (piece : List ℕ) where
-  pub refuses-count : mostContent < s .count → received s piece ≡ notHeard s
-  unfolding received
-  refuses-count many = rw (lt-ltb mostContent (s .count) many)
-
-  pub refuses-station : hasAddress (s .station) ≡ false → received s piece ≡ notHeard s
-  unfolding received
-  refuses-station bad = rw (bad, or-true)
-
   pub refuses-bad : badReceiver s ≡ true → received s piece ≡ notHeard s
   unfolding received
   refuses-bad bad = rw bad
@@ -80,9 +72,6 @@ module _ (s : Receiver) (piece : List ℕ) where
   pub hears : badReceiver s ≡ false → received s piece ≡ heard 0 s piece
   unfolding received
   hears good = rw good
-
-  pub hears-piece : s .count ≤ mostContent → hasAddress (s .station) ≡ true → received s piece ≡ heard 0 s piece
-  hears-piece within good = hears (rw (le-ltb mostContent (s .count) within, good))
 
   pub by-table : ReceiverTable s piece (received s piece)
   unfolding received

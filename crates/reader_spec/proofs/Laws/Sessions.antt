@@ -62,15 +62,10 @@ session-agrees {alone} {held = held} (powered {s} {h = h} se r says) =
     (agrees-powered a)
 session-agrees (called se c) = call-follows (session-agrees se) c .agrees
 
--- a call in which nobody else wrote to the store is one in which somebody may have, and so is a session
+-- a call in which nobody else wrote to the store is one in which somebody may have
 abbrev pub loose-call : {alone : Bool} {h : History} {s : Reader} {held : List ℕ} → Call alone h s held → Call false h s held
 loose-call c =
     record { input = c .input; lent = c .lent; answer = c .answer; left = c .left; kept = tt; whole = c .whole; says = c .says }
-
-pub loose : {alone : Bool} {s : Reader} {held : List ℕ} {h : History} → ReaderSession alone s held h → ReaderSession false s held h
-loose (begins r store is) = begins r store is
-loose (powered se r says) = powered (loose se) r says
-loose (called se c) = called (loose se) (loose-call c)
 
 -- a session begins with a fresh reader
 pub fresh-session : {alone : Bool} (store : List ℕ) → ReaderSession alone (readerWith freshState) store begun

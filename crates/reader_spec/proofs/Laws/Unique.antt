@@ -1,5 +1,5 @@
 -- A call's statement leaves no choice: two results that it allows are equal. docs/STATEMENTS.md cites one of these, or one of
--- ground's or wire's, for each call.
+-- ground's or wire_spec's, for each call.
 -- Assumes nothing.
 use mathlib.Core.Path.{_≡_, refl, ap}
 use mathlib.Mathlib.Logic.Function.Defs.{LeftInverse·injective}
