@@ -3,4 +3,5 @@ pub mod Mastering
 pub mod Exchange
 pub mod Requests
 pub mod Refusing
+pub mod Going
 pub mod Demands

@@ -6,9 +6,6 @@ use mathlib.Core.List.{List, _∷_, _++_, List·Memᴰ}
 use mathlib.Core.Option.{some}
 use Prim.Native.Nat.{ℕ, _+_, _≤_}
 use lib.ListN.{length}
-use Rattle.ground.specs.declared.refusal.Counted.{Counted}
-use Rattle.ground.specs.Refusals.{tally}
-use Rattle.wire_spec.specs.Writing.{after}
 use Rattle.link_spec.specs.declared.station.Station.the-variants.{Point}
 use Rattle.link_spec.specs.declared.receiver.Receiver.{Receiver}
 use Rattle.link_spec.specs.Limits.{mostData}
@@ -17,16 +14,15 @@ use Rattle.link_spec.specs.Hearing.{Told, toldAt, IsFresh, Hearing}
 use Rattle.request_spec.specs.declared.command.Command.{Command}
 use Rattle.request_spec.specs.declared.command.Acceptance.the-variants.{Accepted, Refused}
 use Rattle.request_spec.specs.declared.command.Fault.{Fault}
-use Rattle.request_spec.specs.Acceptance.{nackOf}
+use Rattle.request_spec.specs.Acceptance.{nackOf, Accepts}
 use Rattle.request_spec.specs.Replies.{Reply, NACK, sign, identifierOf, frontOf}
-use Rattle.request_spec.specs.Requesting.{requestWritten}
 use Rattle.request_spec.specs.Reading.{hasRead, replyRead}
 use Rattle.reader_spec.specs.declared.reader.Asking.the-variants.{Right}
 use Rattle.reader_spec.specs.declared.reader.Reader.{Reader}
 use Rattle.reader_spec.specs.State.{stateOf}
 use Rattle.reader_spec.specs.Asking.{asking}
 use Rattle.reader_spec.specs.Replies.{IsAnswer, replyImage, replyTo}
-use Rattle.reader_spec.specs.Answering.{LentWell}
+use Rattle.reader_spec.specs.Answering.{LentWell, Unfit}
 use Rattle.reader_spec.specs.Sessions.{History, repeats, bytesOf, repeatsLast, asksFor, judgedHistory, toSend, isRepeat, Call, Done, bytesSent, ReaderSession}
 use Rattle.reader_spec.specs.Promises.{Recalls}
 
@@ -69,10 +65,13 @@ pub record WellAnswered {alone : Bool} {h : History} {s : Reader} {held : List �
   pub sends : Done c → (isRepeat h (c .input) ≡ true → alone ≡ true) → bytesSent c ≡ toSend h (c .input)
   -- a frame that repeats the last executed command changes nothing, and sends what the store holds of its reply
   pub recalls : Done c → asking (c .input .event) ≡ Right → repeatsLast h (c .input) ≡ true → Recalls c
-  -- a typed request that was written is executed; one that the writer refuses with 5, if a frame can carry it, gets NACK 2 or 3
-  pub executes : (identifier code : ℕ) («data» room wrote : List ℕ) (w : Counted) → Asks c identifier code «data»
-      → after w wrote ≡ requestWritten identifier code «data» room
-      → (tally w .refusal ≡ 0 → RequestExecuted c) × (tally w .refusal ≡ 5 → length «data» ≤ mostData → RequestNacked c)
+  -- with good buffers and a content that fits it is not refused
+  pub fine : LentWell (c .input) (c .lent) → (Unfit (c .input) → ⊥) → Done c
+  -- a request of the paper's table is executed; any other, if a frame can carry it, gets NACK 2 or 3
+  pub executes : (identifier code : ℕ) («data» : List ℕ) {command : Command} → Asks c identifier code «data» → Accepts code «data» command → RequestExecuted c
+  pub nacks : (identifier code : ℕ) («data» : List ℕ) → Asks c identifier code «data» → ((command : Command) → Accepts code «data» command → ⊥)
+      → length «data» ≤ mostData
+      → RequestNacked c
   -- the reply to a request that is executed is heard wherever it stands, and read by the master as what it is
   pub read : (identifier code : ℕ) («data» before rest : List ℕ) {m : Receiver} {all : List Told} → Asks c identifier code «data»
       → (x : RequestExecuted c)

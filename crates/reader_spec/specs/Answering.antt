@@ -47,6 +47,11 @@ unfoldable pub poweredOn : State → PoweredOn
 poweredOn s =
     cond (badState s) (record { refusal = number BAD; state = s }) (record { refusal = 0; state = stateWith (s .parameters) none })
 
+-- row 4 for it, and else what it does. `Laws.Answering` proves that `poweredOn` answers by these, and that they leave it no other answer
+pub data PowerTable (s : State) : PoweredOn → Type 0 where
+  refuses : BadState s → PowerTable s (record { refusal = number BAD; state = s })
+  forgets : (BadState s → ⊥) → PowerTable s (record { refusal = 0; state = stateWith (s .parameters) none })
+
 -- ---- one call
 
 -- what a call is given besides the reader and the buffers: a receiver event with its content, the check cut off, the device header, and

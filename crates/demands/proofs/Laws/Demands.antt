@@ -1,66 +1,101 @@
 -- The three demands hold.
 -- Assumes nothing.
-use Rattle.ground.proofs.Laws.Laying.{put-keeps}
+use mathlib.Core.Path.{ap, _∙_}
+use Rattle.ground.proofs.Laws.Laying.{put-refused, put-placed, put-keeps}
 use Rattle.wire_spec.proofs.Laws.Unstuffing.{unstuffing-stuffing}
-use Rattle.wire_spec.proofs.Laws.Frame.{frame-keeps}
+use Rattle.wire_spec.proofs.Laws.Writing.{length-refused, length-answered}
+use Rattle.wire_spec.proofs.Laws.Frame.{frame-within, frame-over, frame-keeps}
 use Rattle.link_spec.specs.declared.station.Station.the-variants.{Point, Addressed}
 use Rattle.link_spec.specs.Receiving.{freshReceiver}
 use Rattle.link_spec.proofs.Laws.Frame.{point-residue}
-use Rattle.link_spec.proofs.Laws.Writers.{point-keeps, addressed-keeps, point-writes, addressed-writes}
+use Rattle.link_spec.proofs.Laws.Writers.{point-by-table, addressed-by-table, point-keeps, addressed-keeps}
+use Rattle.link_spec.proofs.Laws.Receiving as receiving
 use Rattle.link_spec.proofs.Laws.Receiving.{received-keeps}
-use Rattle.link_spec.proofs.Laws.Fresh.{fresh-point, fresh-station}
+use Rattle.link_spec.proofs.Laws.Fresh.{refuses-new, fresh-point, fresh-station}
 use Rattle.link_spec.proofs.Laws.Hearing.{hearing-some}
 use Rattle.link_spec.proofs.Laws.Demand.{hearing-lists, cuts-free}
 use Rattle.link_spec.proofs.Laws.Listed.{point-listed, addressed-listed}
+use Rattle.request_spec.proofs.Laws.Requesting as requesting
 use Rattle.request_spec.proofs.Laws.Requesting.{request-keeps, request-heard}
-use Rattle.reader_spec.proofs.Laws.Answering.{answered-keeps, powered-keeps}
-use Rattle.reader_spec.proofs.Laws.Sessions.{session-sends, repeat-stored}
+use Rattle.request_spec.proofs.Laws.Reading as reading
+use Rattle.reader_spec.specs.State.{freshState}
+use Rattle.reader_spec.specs.Answering.{PoweredOn}
+use Rattle.reader_spec.proofs.Laws.State.{readerWith}
+use Rattle.reader_spec.proofs.Laws.Answering as answering
+use Rattle.reader_spec.proofs.Laws.Answering.{answered-keeps, power-by-table, powered-keeps, powers-on}
+use Rattle.reader_spec.proofs.Laws.Sessions.{session-good, session-sends, repeat-stored, fresh-session}
+use Rattle.reader_spec.proofs.Laws.Some.{call-some, call-fine}
 use Rattle.reader_spec.proofs.Laws.Repeats.{executed-repeats}
 use Rattle.reader_spec.proofs.Laws.Values.{written-read}
 use Rattle.tape_spec.specs.Whole.{parts, entries, freshReceivers}
-use Rattle.tape_spec.proofs.Laws.Taping.{listed-keeps}
-use Rattle.tape_spec.proofs.Laws.Sessions.{listing-shows, listing-some}
+use Rattle.tape_spec.proofs.Laws.Taping.{refuses-state, refuses-room, lists-chunk, listed-keeps}
+use Rattle.tape_spec.proofs.Laws.Sessions.{listing-is, listing-shows, listing-some}
+use Rattle.demands.specs.Refusing.{RefusesByTable, RefusedChangesNothing}
 use Rattle.demands.specs.Demands.{Demand1, Demand2, Demand3}
 use Rattle.demands.proofs.Laws.Refusing.{put-stops, length-counts, frame-counts, point-counts, addressed-counts, request-counts, new-refused, received-silent, reply-meaningless, listed-counts}
 use Rattle.demands.proofs.Laws.Exchange.{exchange}
 use Rattle.demands.proofs.Laws.Requests.{request-executed, request-nacked}
+use Rattle.demands.proofs.Laws.Going.{receiver-goes-on, tape-goes-on}
 
-pub demand-1 : Demand1
-demand-1 =
+refuses-by-table : RefusesByTable
+refuses-by-table =
+    record {
+      puts = λ bytes out at. (put-refused bytes out at, put-placed bytes out at);
+      asksLength = λ content. (length-refused content, length-answered content);
+      frame = λ check head «data» out. (frame-over check head «data» out, frame-within check head «data» out);
+      point = point-by-table;
+      addressed = addressed-by-table;
+      station = refuses-new;
+      receiver = receiving.by-table;
+      request = requesting.by-table;
+      reader = answering.by-table;
+      power = power-by-table;
+      master = reading.by-table;
+      tape = λ t chunk out. (refuses-state t chunk out, refuses-room t chunk out, lists-chunk t chunk out);
+    }
+
+refused-changes-nothing : RefusedChangesNothing
+refused-changes-nothing =
     record {
       puts = λ bytes out at. (put-keeps bytes out at, put-stops bytes out at);
-      length = length-counts;
+      asksLength = length-counts;
       frame = λ check head «data» out. (frame-keeps check head «data» out, frame-counts check head «data» out);
       point = λ identifier command «data» out. (point-keeps identifier command «data» out, point-counts identifier command «data» out);
-      addressed = λ address identifier command «data» out. (addressed-keeps address identifier command «data» out, addressed-counts address identifier command «data» out);
-      request = λ identifier code «data» out. (request-keeps identifier code «data» out, request-counts identifier code «data» out);
+      addressed = λ address identifier command «data» out. (
+        addressed-keeps address identifier command «data» out,
+        addressed-counts address identifier command «data» out,
+      );
       station = new-refused;
       receiver = λ s piece. let silent = received-silent s piece in (received-keeps s piece, silent .0, silent .1, silent .2);
+      request = λ identifier code «data» out. (request-keeps identifier code «data» out, request-counts identifier code «data» out);
       reader = answered-keeps;
       power = powered-keeps;
       master = reply-meaningless;
       tape = λ t chunk out. let k = listed-keeps t chunk out in let n = listed-counts t chunk out in (k .0, k .1, n .0, n .1);
     }
 
+pub demand-1 : Demand1
+demand-1 = record { refuses = refuses-by-table; keeps = refused-changes-nothing }
+
 pub demand-2 : Demand2
 demand-2 =
     record {
-      point = point-writes;
-      addressed = addressed-writes;
       pointHeard = point-listed;
       addressedHeard = addressed-listed;
+      requestHeard = request-heard;
       check = point-residue;
       stuffed = unstuffing-stuffing;
-      requestHeard = request-heard;
       answers = λ se c. record {
         sends = session-sends se c;
         recalls = repeat-stored se c;
-        executes = λ identifier code «data» room wrote w asks says. (
-          request-executed se c identifier code «data» asks w room wrote says,
-          request-nacked se c identifier code «data» asks w room wrote says,
-        );
+        fine = call-fine se c;
+        executes = λ identifier code «data» asks row. request-executed se c identifier code «data» asks row;
+        nacks = λ identifier code «data» asks none. request-nacked se c identifier code «data» asks none;
         read = exchange se c;
       };
+      begins = λ alone store. (readerWith freshState, fresh-session store);
+      goesOn = call-some;
+      powers = λ {s = s} se r says. ap (λ (p : PoweredOn). p .refusal) says ∙ ap (λ (p : PoweredOn). p .refusal) (powers-on _ (session-good se));
       values = written-read;
       repeats = λ se first done does idle again. executed-repeats se first done does idle again;
     }
@@ -70,9 +105,12 @@ demand-3 =
     record {
       lists = hearing-lists;
       cuts = cuts-free;
-      some = hearing-some;
+      goesOn = receiver-goes-on;
       point = (freshReceiver Point, fresh-point);
       station = λ own is. (freshReceiver (Addressed own), fresh-station own is);
+      some = hearing-some;
       tape = λ {bytes} l. let shows = listing-shows l in (entries 0 freshReceivers (parts 0 bytes .records), shows .0, shows .1);
-      taped = listing-some;
+      tapeCuts = listing-is;
+      tapeGoesOn = tape-goes-on;
+      tapeSome = listing-some;
     }

@@ -1,23 +1,18 @@
--- What the typed writer writes is executed, and what it refuses with 5 is answered NACK 2 or 3.
+-- A request of the paper's table is executed, and any other is answered NACK 2 or 3.
 -- Assumes nothing.
-use mathlib.Core.Path.{_≡_, refl, sym, ap, _∙_}
+use mathlib.Core.Path.{_≡_, refl, ap, _∙_}
 use mathlib.Core.Bool.{Bool, true, false, true≢false}
 use mathlib.Core.List.{List}
 use Prim.Native.Nat.{ℕ, _≤_}
 use lib.ListN.{length}
-use Rattle.ground.specs.declared.refusal.Counted.{Counted}
-use Rattle.ground.specs.Refusals.{tally}
-use Rattle.wire_spec.specs.Writing.{After, after}
 use Rattle.link_spec.specs.Limits.{mostData}
 use Rattle.link_spec.specs.Events.{FRAME}
 use Rattle.request_spec.specs.declared.command.Command.{Command}
 use Rattle.request_spec.specs.declared.command.Acceptance.{Acceptance}
 use Rattle.request_spec.specs.declared.command.Acceptance.the-variants.{Accepted, Refused}
-use Rattle.request_spec.specs.Acceptance.{acceptance, isAccepted}
+use Rattle.request_spec.specs.Acceptance.{acceptance, isAccepted, Accepts}
 use Rattle.request_spec.specs.Replies.{identifierOf, commandOf, dataOf}
-use Rattle.request_spec.specs.Requesting.{requestWritten}
-use Rattle.request_spec.proofs.Laws.Acceptance.{accepts, accepted-short}
-use Rattle.request_spec.proofs.Laws.Requesting.{written-asks, refused-asks}
+use Rattle.request_spec.proofs.Laws.Acceptance.{accepts, accepted, accepted-short}
 use Rattle.reader_spec.specs.declared.reader.Asking.the-variants.{Right}
 use Rattle.reader_spec.specs.declared.reader.Reader.{Reader}
 use Rattle.reader_spec.specs.State.{stateOf}
@@ -82,14 +77,14 @@ module _ {alone : Bool} {s : Reader} {held : List ℕ} {h : History} (se : Reade
       }
   judge-nacks (Accepted command) asked bad short = absurd (true≢false bad)
 
-  -- every typed request that the writer accepted is executed by a reader for which it repeats nothing, so by a fresh one; and every content
-  -- that it refuses with 5, if a frame can carry it, is answered NACK 2 or 3
-  module _ (w : Counted) (room wrote : List ℕ) (says : after w wrote ≡ requestWritten identifier code «data» room) where
-    pub request-executed : tally w .refusal ≡ 0 → RequestExecuted c
-    request-executed none =
-        judge-executes (written-asks identifier code «data» room (sym (ap (λ (a : After). a .tally .refusal) says) ∙ none) .1)
+  -- a request of the paper's table is executed by a reader for which it repeats nothing, so by a fresh one; and any other, if a frame can
+  -- carry it, is answered NACK 2 or 3
+  pub request-executed : {command : Command} → Accepts code «data» command → RequestExecuted c
+  request-executed row = judge-executes (accepted row)
 
-    pub request-nacked : tally w .refusal ≡ 5 → length «data» ≤ mostData → RequestNacked c
-    request-nacked five short =
-        judge-nacks (acceptance code «data») refl
-        (refused-asks identifier code «data» room (sym (ap (λ (a : After). a .tally .refusal) says) ∙ five)) short
+  pub request-nacked : ((command : Command) → Accepts code «data» command → ⊥) → length «data» ≤ mostData → RequestNacked c
+  request-nacked none = judge-nacks (acceptance code «data») refl (of (acceptance code «data») refl)
+    where
+      of : (k : Acceptance) → acceptance code «data» ≡ k → isAccepted k ≡ false
+      of (Refused fault) is = refl
+      of (Accepted command) is = absurd (none command (accepts code «data» is))

@@ -4,10 +4,11 @@ use mathlib.Core.Path.{_≡_, refl, sym, subst⁻¹, _∙_}
 use mathlib.Core.Bool.{Bool, true, false, cond, not, or-true, true≢false, false≢true, not-eq-not}
 use mathlib.Core.List.{List, [], _∷_}
 use mathlib.Core.Logic.{_↔_}
-use Prim.Native.Nat.{ℕ, _+_, _≤_, _<_, zero-le}
+use Prim.Native.Nat.{ℕ, suc, _+_, _-_, _≤_, _<_, zero-le}
 use native.Mathlib.Omega.{arith}
 use lib.Dec.{ltb}
-use lib.ListN.{length, drop, getD, length-take, drop-of-length-le}
+use lib.ListN.{length, take, drop, getD, length-take, drop-of-length-le}
+use lib.Seq.{take-nil}
 use borrow.Author.Tests.{lt-ltb, le-ltb, ltb-true, ltb-false, not-true}
 use Rattle.ground.specs.declared.refusal.Refusal.the-variants.{None, BadState}
 use Rattle.ground.specs.Refusals.{number, Keeps}
@@ -128,6 +129,24 @@ unfolding received heard
 empty-piece s =
     cond-elim (λ (said : Said). said .receiver ≡ s × said .event ≡ NONE × said .taken ≡ 0) (badReceiver s) (λ t. (refl, refl, refl))
     (λ f. (refl, refl, refl))
+
+-- only the bytes that were taken count: a call on just these answers the same
+heard-prefix : (piece : List ℕ) (taken : ℕ) (s : Receiver) → let said = heard taken s piece in
+    (taken ≤ said .taken) × (heard taken s (take (said .taken - taken) piece) ≡ said)
+unfolding heard
+heard-prefix =
+    heard-elim
+    (λ (taken : ℕ) (s : Receiver) (piece : List ℕ) (said : Said). (taken ≤ said .taken)
+    × (heard taken s (take (said .taken - taken) piece) ≡ said))
+    (λ taken s. (omega arith, rw (take-nil {A = ℕ} (taken - taken)) refl))
+    (λ taken s b bs y. let one : taken + 1 - taken ≡ 1 = omega arith in (omega arith, rw (one, y) refl))
+    (λ taken s b bs said n h. let next : said .taken - taken ≡ suc (said .taken - (taken + 1)) = omega (arith, h .0) in
+    (omega (arith, h .0), rw (next, n) (h .1)))
+
+pub received-prefix : (s : Receiver) (piece : List ℕ) → badReceiver s ≡ false → received s (take (received s piece .taken) piece) ≡ received s piece
+received-prefix s piece good =
+    let none : heard 0 s piece .taken - 0 ≡ heard 0 s piece .taken = omega arith in
+    rw (hears s piece good, hears s (take (heard 0 s piece .taken) piece) good) (rw none at (heard-prefix piece 0 s .1))
 
 -- ---- what a call takes
 

@@ -30,7 +30,7 @@ use Rattle.reader_spec.specs.State.{State, stateWith, find, badState, Ba
 use Rattle.reader_spec.specs.Asking.{asking}
 use Rattle.reader_spec.specs.Replies.{replyImage}
 use Rattle.reader_spec.specs.Sending.{OUT, Buffers}
-use Rattle.reader_spec.specs.Answering.{PoweredOn, poweredOn, Input, Answered, notAnswered, nacked, replyBytes, judged, recalled, framed, stepped, LentWell, isFront, fits, admitted, answered, CarriesContent, frame, check, Unfit, short, long, ReaderTable, state, noStore, noOut, tooLong, request, steps}
+use Rattle.reader_spec.specs.Answering.{PoweredOn, poweredOn, PowerTable, refuses, forgets, Input, Answered, notAnswered, nacked, replyBytes, judged, recalled, framed, stepped, LentWell, isFront, fits, admitted, answered, CarriesContent, frame, check, Unfit, short, long, ReaderTable, state, noStore, noOut, tooLong, request, steps}
 use Rattle.reader_spec.proofs.Laws.State.{bad-state, bad-row, good-state, no-row}
 
 -- ---- power-on: row 4 of the refusal table, when and only then
@@ -43,6 +43,15 @@ refuses-power bad = rw (bad-state bad)
 pub powers-on : (s : State) → badState s ≡ false → poweredOn s ≡ record { refusal = 0; state = stateWith (s .parameters) none }
 unfolding poweredOn
 powers-on s good = rw good
+
+pub power-by-table : (s : State) → PowerTable s (poweredOn s)
+unfolding poweredOn
+power-by-table s =
+    cond-elim (PowerTable s) (badState s) (λ bad. refuses (bad-row s bad)) (λ good. forgets (good-state good))
+
+pub power-only : {s : State} {p : PoweredOn} → PowerTable s p → p ≡ poweredOn s
+power-only (refuses bad) = sym (refuses-power bad)
+power-only {s} (forgets good) = sym (powers-on s (no-row s good))
 
 -- a refused one leaves the reader as before
 pub powered-keeps : (s : State) → Keeps (poweredOn s .refusal) s (poweredOn s .state)

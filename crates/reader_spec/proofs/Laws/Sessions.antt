@@ -24,7 +24,7 @@ use Rattle.reader_spec.specs.Asking.{asking}
 use Rattle.reader_spec.specs.Replies.{replyImage, replyTo}
 use Rattle.reader_spec.specs.Sending.{sent}
 use Rattle.reader_spec.specs.Answering.{PoweredOn, Input, Answered, LentWell, answerSays, executed, stepped}
-use Rattle.reader_spec.specs.Sessions.{Execution, imageOf, History, begun, poweredBy, repeats, isFrame, bytesOf, repeatsLast, asksFor, nextHistory, nextHistoryBy, judgedReply, toSend, isRepeat, isExecuted, remembers, Call, Done, bytesSent, historyAfter, ReaderSession, begins, powered, called}
+use Rattle.reader_spec.specs.Sessions.{Execution, imageOf, History, begun, poweredBy, repeats, isFrame, bytesOf, repeatsLast, asksFor, nextHistory, nextHistoryBy, judgedReply, toSend, isRepeat, isExecuted, remembers, Call, Done, bytesSent, ReaderSession, begins, powered, called}
 use Rattle.reader_spec.specs.Promises.{Recalls}
 use Rattle.reader_spec.proofs.Laws.State.{readerWith, state-back}
 use Rattle.reader_spec.proofs.Laws.Answering.{powers-on, row-elim}

@@ -1,18 +1,21 @@
 -- The writer of typed requests answers by the refusal table, and what it wrote is heard.
 -- Assumes nothing.
 use mathlib.Core.Path.{_≡_, refl, sym, ap, _∙_}
-use mathlib.Core.Bool.{false}
+use mathlib.Core.Bool.{true, false, cond, true≢false}
 use mathlib.Core.List.{List, _∷_, _++_, List·Memᴰ}
 use mathlib.Core.Logic.{_⊎_, inl, inr}
 use Prim.Native.Nat.{ℕ, _+_}
 use native.Mathlib.Omega.{arith}
+use lib.Dec.{ltb}
 use lib.ListN.{length, take}
+use borrow.Author.Tests.{ltb-true, ltb-false}
 use Rattle.ground.specs.declared.refusal.Refusal.the-variants.{BadRequest}
 use Rattle.ground.specs.declared.refusal.Counted.{Counted}
 use Rattle.ground.specs.Refusals.{tally, Keeps}
 use Rattle.ground.proofs.Laws.Choice.{cond-elim}
-use Rattle.wire_spec.specs.Writing.{After, after, notWritten}
-use Rattle.wire_spec.proofs.Laws.Writing.{written-keeps}
+use Rattle.wire_spec.specs.Image.{image}
+use Rattle.wire_spec.specs.Writing.{After, after, notWritten, imageWritten}
+use Rattle.wire_spec.proofs.Laws.Writing.{written-short, written-whole, written-keeps}
 use Rattle.link_spec.specs.declared.station.Station.the-variants.{Point}
 use Rattle.link_spec.specs.declared.receiver.Receiver.{Receiver}
 use Rattle.link_spec.specs.Frame.{pointContent}
@@ -24,9 +27,9 @@ use Rattle.link_spec.proofs.Laws.Listed.{point-listed}
 use Rattle.request_spec.specs.declared.command.Command.{Command}
 use Rattle.request_spec.specs.declared.command.Acceptance.{Acceptance}
 use Rattle.request_spec.specs.declared.command.Acceptance.the-variants.{Accepted, Refused}
-use Rattle.request_spec.specs.Acceptance.{acceptance, isAccepted}
-use Rattle.request_spec.specs.Requesting.{requestWritten}
-use Rattle.request_spec.proofs.Laws.Acceptance.{accepts, accepted-short}
+use Rattle.request_spec.specs.Acceptance.{acceptance, isAccepted, Accepts}
+use Rattle.request_spec.specs.Requesting.{requestWritten, RequestTable, badRequest, noRoom, frame}
+use Rattle.request_spec.proofs.Laws.Acceptance.{accepts, accepted, accepted-short}
 
 -- a code with data is accepted or not
 either : (k : Acceptance) → (isAccepted k ≡ false) ⊎ ((command : Command) × (k ≡ Accepted command))
@@ -42,6 +45,33 @@ module _ (identifier code : ℕ) («data» out : List ℕ) where
       → pointWritten identifier code «data» out ≡ requestWritten identifier code «data» out
   unfolding requestWritten
   request-written asked = rw asked (point-goes-on identifier code «data» out (accepted-short (accepts code «data» asked)))
+
+  -- the rows both ways
+  pub by-table : RequestTable identifier code «data» out (requestWritten identifier code «data» out)
+  unfolding requestWritten imageWritten
+  by-table = of (acceptance code «data») refl
+    where
+      of : (k : Acceptance) → acceptance code «data» ≡ k → RequestTable identifier code «data» out
+          (cond (isAccepted k) (imageWritten (pointContent identifier code «data») out) (notWritten BadRequest out))
+      of (Refused fault) is = badRequest (λ command row. true≢false (sym (ap isAccepted (accepted row)) ∙ ap isAccepted is))
+      of (Accepted command) is =
+          cond-elim (RequestTable identifier code «data» out) (ltb (length out) (length (image (pointContent identifier code «data»))))
+          (λ short. noRoom (accepts code «data» is) (ltb-true (length out) (length (image (pointContent identifier code «data»))) short))
+          (λ fits. frame (accepts code «data» is) (ltb-false (length out) (length (image (pointContent identifier code «data»))) fits))
+
+  written-as : {command : Command} → Accepts code «data» command
+      → requestWritten identifier code «data» out ≡ imageWritten (pointContent identifier code «data») out
+  unfolding requestWritten
+  written-as row = rw (accepted row)
+
+  pub table-only : {w : After} → RequestTable identifier code «data» out w → w ≡ requestWritten identifier code «data» out
+  table-only (badRequest none) = sym (request-refused (of (acceptance code «data») refl))
+    where
+      of : (k : Acceptance) → acceptance code «data» ≡ k → isAccepted k ≡ false
+      of (Refused fault) is = refl
+      of (Accepted command) is = absurd (none command (accepts code «data» is))
+  table-only (noRoom row short) = sym (written-as row ∙ written-short (pointContent identifier code «data») out short)
+  table-only (frame row fits) = sym (written-as row ∙ written-whole (pointContent identifier code «data») out fits)
 
   -- a refused call leaves the buffer as before
   pub request-keeps : Keeps (requestWritten identifier code «data» out .tally .refusal) out (requestWritten identifier code «data» out .out)

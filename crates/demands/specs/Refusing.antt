@@ -1,0 +1,75 @@
+-- Demand 1 in two parts: each call refuses what the paper's table names, and only that; and a refused call changes and answers nothing.
+-- 01, Refusal numbers. Assumes nothing.
+use mathlib.Core.Path.{_≡_}
+use mathlib.Core.Bool.{true, false}
+use mathlib.Core.List.{List, _++_}
+use mathlib.Core.Option.{none}
+use Prim.Native.Nat.{ℕ, _+_, _-_, _≤_, _<_}
+use lib.ListN.{length}
+use Rattle.ground.specs.declared.refusal.Refusal.the-variants.{NoRoom, TooLong, BadState}
+use Rattle.ground.specs.Refusals.{refused, counted, Keeps, AnswersOnly}
+use Rattle.ground.specs.Laying.{unplaced, placed, put}
+use Rattle.checks.specs.declared.kind.Check.{Check}
+use Rattle.checks.specs.Check.{checkLength, withCheck}
+use Rattle.wire_spec.specs.Limits.{mostContent}
+use Rattle.wire_spec.specs.Image.{imageLength}
+use Rattle.wire_spec.specs.Writing.{After, notWritten, lengthAsked, imageWritten, frameWritten}
+use Rattle.link_spec.specs.declared.receiver.Receiver.{Receiver}
+use Rattle.link_spec.specs.Writers.{pointWritten, addressedWritten, PointTable, AddressedTable}
+use Rattle.link_spec.specs.Events.{NONE}
+use Rattle.link_spec.specs.Receiving.{freshMade, NewTable, received, ReceiverTable}
+use Rattle.request_spec.specs.Requesting.{requestWritten, RequestTable}
+use Rattle.request_spec.specs.Reading.{replyRead, MasterTable}
+use Rattle.reader_spec.specs.State.{State}
+use Rattle.reader_spec.specs.Sending.{OUT, Buffers}
+use Rattle.reader_spec.specs.Answering.{poweredOn, PowerTable, Input, answered, ReaderTable}
+use Rattle.tape_spec.specs.declared.tape.Tape.{Tape}
+use Rattle.tape_spec.specs.Limits.{leastRoom}
+use Rattle.tape_spec.specs.Taping.{badTape, notListed, going, textWritten, listed}
+
+-- When, and only then: each answer is that of the table's row whose conditions hold. The rows of one table exclude each other, so where a row's
+-- conditions hold the call has no other answer (`table-only` and its like).
+pub record RefusesByTable : Type 0 where
+  pub puts : (bytes out : List ℕ) (at : ℕ) → (length out - at < length bytes → put bytes out at ≡ unplaced NoRoom out at)
+      × (length bytes ≤ length out - at → put bytes out at ≡ placed bytes out at)
+  pub asksLength : (content : List ℕ) → (mostContent < length content → lengthAsked content ≡ refused TooLong)
+      × (length content ≤ mostContent → lengthAsked content ≡ counted (imageLength content))
+  pub frame : (check : Check) (head «data» out : List ℕ) → let n = length head + length «data» + checkLength check in
+      (mostContent < n → frameWritten check head «data» out ≡ notWritten TooLong out)
+      × (n ≤ mostContent → frameWritten check head «data» out ≡ imageWritten (withCheck check (head ++ «data»)) out)
+  pub point : (identifier command : ℕ) («data» out : List ℕ) → PointTable identifier command «data» out (pointWritten identifier command «data» out)
+  pub addressed : (address identifier command : ℕ) («data» out : List ℕ)
+      → AddressedTable address identifier command «data» out (addressedWritten address identifier command «data» out)
+  pub station : (own : ℕ) → NewTable own (freshMade own)
+  pub receiver : (s : Receiver) (piece : List ℕ) → ReceiverTable s piece (received s piece)
+  pub request : (identifier code : ℕ) («data» out : List ℕ) → RequestTable identifier code «data» out (requestWritten identifier code «data» out)
+  pub reader : (s : State) (i : Input) (lent : Buffers) → ReaderTable s i lent (answered s i lent)
+  pub power : (s : State) → PowerTable s (poweredOn s)
+  pub master : (identifier code : ℕ) («data» reply : List ℕ) → MasterTable identifier code «data» reply (replyRead identifier code «data» reply)
+  pub tape : (t : Tape) (chunk out : List ℕ) → (badTape t ≡ true → listed t chunk out ≡ notListed BadState t out)
+      × (badTape t ≡ false → length out < leastRoom → listed t chunk out ≡ notListed NoRoom t out)
+      × (badTape t ≡ false → leastRoom ≤ length out → listed t chunk out ≡ textWritten (going (length out) t chunk) out)
+
+-- a call that writes to a lent buffer: refused, it counts 0 and leaves the buffer as it was
+abbrev pub Writer : (List ℕ → After) → Type 0
+Writer writes =
+    (out : List ℕ) → Keeps (writes out .tally .refusal) out (writes out .out) × AnswersOnly (writes out .tally .refusal) 0 (writes out .tally .count)
+
+-- A refused call changes no state and no byte of a lent buffer, and answers count 0, no event, no meaning or an empty part.
+pub record RefusedChangesNothing : Type 0 where
+  pub puts : (bytes out : List ℕ) (at : ℕ) → let e = put bytes out at in Keeps (e .refusal) out (e .out) × AnswersOnly (e .refusal) at (e .end)
+  pub asksLength : (content : List ℕ) → AnswersOnly (lengthAsked content .refusal) 0 (lengthAsked content .count)
+  pub frame : (check : Check) (head «data» : List ℕ) → Writer (frameWritten check head «data»)
+  pub point : (identifier command : ℕ) («data» : List ℕ) → Writer (pointWritten identifier command «data»)
+  pub addressed : (address identifier command : ℕ) («data» : List ℕ) → Writer (addressedWritten address identifier command «data»)
+  -- what comes with the refusal of a new station is refused by every call
+  pub station : (own : ℕ) (piece : List ℕ) → (freshMade own .refusal ≡ 0 → ⊥) → received (freshMade own .receiver) piece .refusal ≡ 4
+  pub receiver : (s : Receiver) (piece : List ℕ) → let a = received s piece in
+      Keeps (a .refusal) s (a .receiver) × AnswersOnly (a .refusal) NONE (a .event) × AnswersOnly (a .refusal) 0 (a .length) × AnswersOnly (a .refusal) 0 (a .taken)
+  pub request : (identifier code : ℕ) («data» : List ℕ) → Writer (requestWritten identifier code «data»)
+  pub reader : (s : State) (i : Input) (lent : Buffers) → let a = answered s i lent in
+      Keeps (a .refusal) s (a .state) × Keeps (a .refusal) lent (a .left) × AnswersOnly (a .refusal) OUT (a .buffer) × AnswersOnly (a .refusal) 0 (a .length)
+  pub power : (s : State) → Keeps (poweredOn s .refusal) s (poweredOn s .state)
+  pub master : (identifier code : ℕ) («data» reply : List ℕ) → let o = replyRead identifier code «data» reply in AnswersOnly (o .refusal) none (o .meaning)
+  pub tape : (t : Tape) (chunk out : List ℕ) → let d = listed t chunk out in
+      Keeps (d .refusal) t (d .tape) × Keeps (d .refusal) out (d .out) × AnswersOnly (d .refusal) 0 (d .taken) × AnswersOnly (d .refusal) 0 (d .written)
