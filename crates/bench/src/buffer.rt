@@ -1,15 +1,10 @@
 // Buffers, and the parts of them that are lent.
 
-// The most that a byte of the script can say.
-pub(crate) const MOST_LENGTH: usize = 255;
+// The length of a buffer, and so the greatest room.
+pub(crate) const MOST_ROOM: usize = 600;
 
 // What a buffer holds until a call writes to it.
 pub(crate) const UNTOUCHED: u8 = 0xEE;
-
-// A byte of the script as a length.
-pub(crate) fn length(byte: u8) -> usize {
-    byte as usize
-}
 
 // The first `length` bytes, or all where there are fewer.
 pub(crate) fn front(bytes: &[u8], length: usize) -> &[u8] {

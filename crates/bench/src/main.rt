@@ -1,75 +1,71 @@
-// Reads a script from standard input and writes one line for each record of it: the calls of the library, tried on any input. docs/BENCH.md
+// Reads a script from standard input and writes one row for each record of it: the calls of the library, tried on any input. docs/BENCH.md
 // says what a script is.
 mod bench;
 mod buffer;
-mod line;
 mod masters;
+mod number;
 mod op;
 mod readers;
 mod receivers;
+mod row;
 mod script;
 mod values;
 mod writers;
 
 use bench::Bench;
 use buffer::front;
-use line::Text;
-use op::Op;
 use op::perform;
+use row::Row;
+use script::Ending;
 use script::Next;
 use script::read_record;
 
-// What lives on after a turn, and whether another one follows.
-struct Turn {
-    bench: Bench,
-    goes_on: bool,
-}
+// A Rattle program has no exit status. Where all was read and written it says so by a byte on this descriptor, for which tools/start waits;
+// started without tools/start, the descriptor is closed and the write comes to nothing.
+const DONE: i32 = 3;
 
 fn main() {
+    let mut space = io::large_buffer();
+    if run(&mut space) {
+        io::write_all(DONE, b"1");
+    }
+}
+
+// Does the records of the script, with `space` for a payload, and writes their rows; whether all was read and written.
+fn run(space: &mut [u8]) -> bool {
     let mut bench = Bench::fresh();
     let mut records: usize = 0;
     // A proved loop has to end; no script has as many records.
     while records < usize::MAX {
-        let turn = take_turn(bench, records);
-        if !turn.goes_on {
-            return;
+        let next = read_record(space);
+        match next {
+            Next::Record(op, code, length) => {
+                let done = perform(bench, op, front(space, length), Row::of_op(code));
+                bench = done.bench;
+                if !done.row.print() {
+                    return false;
+                }
+            }
+            Next::None(ending) => return write_last(ending, records),
         }
-        bench = turn.bench;
         records += 1;
     }
+    false
 }
 
-// Does the record that follows so many, or writes the last line where none follows.
-fn take_turn(bench: Bench, records: usize) -> Turn {
-    let record = read_record();
-    let next = record.next;
-    match next {
-        Next::Record(op) => {
-            let payload = record.payload;
-            let length = record.length;
-            write_line(bench, op, record.code, front(&payload, length))
+// Writes the last row, after this many records; whether that went well. Where a read failed there is none, and standard error says why.
+fn write_last(ending: Ending, records: usize) -> bool {
+    match ending {
+        Ending::End => print_last(b"end", records),
+        Ending::Cut => print_last(b"cut", records),
+        Ending::Bad => print_last(b"bad", records),
+        Ending::Failed => {
+            os::fail(b"bench: standard input");
+            false
         }
-        Next::End => write_last(bench, b"end", records),
-        Next::Cut => write_last(bench, b"cut", records),
-        Next::Bad => write_last(bench, b"bad", records),
     }
 }
 
-// Does what the op asks for and writes the record's line.
-fn write_line(bench: Bench, op: Op, code: u8, payload: &[u8]) -> Turn {
-    let text = Text::empty().with_pairs(&[code]);
-    let done = perform(bench, op, payload, text);
-    let bench = done.bench;
-    let text = done.text;
-    let goes_on = text.print();
-    Turn { bench, goes_on }
-}
-
-// Writes the last line: how the script ended, and how many records were done.
-fn write_last(bench: Bench, ending: &[u8], records: usize) -> Turn {
-    Text::empty().with(ending).number(records).print();
-    Turn {
-        bench,
-        goes_on: false,
-    }
+fn print_last(ending: &[u8], records: usize) -> bool {
+    Row::empty().with(ending).number(records).print()
 }

@@ -1,10 +1,11 @@
 // The point line's master: typed requests, and the reading of replies.
-use crate::buffer::MOST_LENGTH;
+use crate::buffer::MOST_ROOM;
 use crate::buffer::UNTOUCHED;
 use crate::buffer::front;
 use crate::buffer::front_mut;
-use crate::buffer::length;
-use crate::line::Text;
+use crate::number::number_at;
+use crate::number::one_byte;
+use crate::row::Row;
 use crate::writers::put_written;
 use master::data_of;
 use master::read_reply;
@@ -12,39 +13,39 @@ use request::Meaning;
 use request::write_request;
 
 // Payload: room, identifier, code, data.
-pub(crate) fn put_request(payload: &[u8], text: Text) -> Text {
-    if payload.len() < 3 {
-        return text.short();
+pub(crate) fn put_request(payload: &[u8], row: Row) -> Row {
+    if payload.len() < 4 {
+        return row.short();
     }
-    let room = length(payload[0]);
-    let mut buffer = [UNTOUCHED; MOST_LENGTH];
+    let room = number_at(payload, 0);
+    let mut buffer = [UNTOUCHED; MOST_ROOM];
     let lent = front_mut(&mut buffer, room);
-    let written = write_request(payload[1], payload[2], &payload[3..], lent);
-    put_written(written, front(&buffer, room), text)
+    let written = write_request(payload[2], payload[3], &payload[4..], lent);
+    put_written(written, lent, row)
 }
 
 // Payload: identifier, code, count of data, data, reply.
-pub(crate) fn put_reading(payload: &[u8], text: Text) -> Text {
+pub(crate) fn put_reading(payload: &[u8], row: Row) -> Row {
     if payload.len() < 3 {
-        return text.short();
+        return row.short();
     }
-    let count = length(payload[2]);
+    let count = one_byte(payload[2]);
     let rest = &payload[3..];
     if rest.len() < count {
-        return text.short();
+        return row.short();
     }
     let reply = &rest[count..];
     let reading = read_reply(payload[0], payload[1], front(rest, count), reply);
     let refusal = reading.refusal;
     let meaning = reading.meaning;
-    put_meaning(meaning, data_of(reply), text.refusal(refusal))
+    put_meaning(meaning, data_of(reply), row.refusal(refusal))
 }
 
-fn put_meaning(meaning: Meaning, data: &[u8], text: Text) -> Text {
+fn put_meaning(meaning: Meaning, data: &[u8], row: Row) -> Row {
     match meaning {
-        Meaning::None => text.word(b"- -"),
-        Meaning::Ack => text.word(b"ACK -"),
-        Meaning::Nack(number) => text.word(b"NACK").number(number as usize),
-        Meaning::Data => text.word(b"DATA").bytes(data),
+        Meaning::None => row.word(b"- -"),
+        Meaning::Ack => row.word(b"ACK -"),
+        Meaning::Nack(number) => row.word(b"NACK").number(number as usize),
+        Meaning::Data => row.word(b"DATA").bytes(data),
     }
 }

@@ -1,17 +1,18 @@
 // The ops of a script.
 use crate::bench::Bench;
 use crate::bench::Done;
-use crate::line::Text;
 use crate::masters::put_reading;
 use crate::masters::put_request;
 use crate::readers::answer;
 use crate::readers::power_on;
 use crate::readers::put_buffers;
+use crate::readers::set_header;
 use crate::readers::set_reader;
 use crate::receivers::hear_addressed;
 use crate::receivers::hear_point;
 use crate::receivers::new_station;
 use crate::receivers::set_receiver;
+use crate::row::Row;
 use crate::values::put_fcs;
 use crate::values::put_sum;
 use crate::writers::put_addressed_frame;
@@ -34,6 +35,7 @@ pub(crate) enum Op {
     Buffers,
     Request,
     Reading,
+    SetHeader,
 }
 
 // The op that a code names, if there is one.
@@ -59,27 +61,29 @@ pub(crate) fn with_code(code: u8) -> Coded {
         0x23 => Coded::Known(Op::Buffers),
         0x24 => Coded::Known(Op::Request),
         0x25 => Coded::Known(Op::Reading),
+        0x27 => Coded::Known(Op::SetHeader),
         _ => Coded::Unknown,
     }
 }
 
 // Does what the op asks for with this payload, and puts its fields.
-pub(crate) fn perform(bench: Bench, op: Op, payload: &[u8], text: Text) -> Done {
+pub(crate) fn perform(bench: Bench, op: Op, payload: &[u8], row: Row) -> Done {
     match op {
-        Op::PointFrame => bench.done(put_point_frame(payload, text)),
-        Op::AddressedFrame => bench.done(put_addressed_frame(payload, text)),
-        Op::ImageLength => bench.done(put_image_length(payload, text)),
-        Op::Fcs => bench.done(put_fcs(payload, text)),
-        Op::Sum => bench.done(put_sum(payload, text)),
-        Op::HearPoint => hear_point(bench, payload, text),
-        Op::NewStation => new_station(bench, payload, text),
-        Op::HearAddressed => hear_addressed(bench, payload, text),
-        Op::SetReceiver => set_receiver(bench, payload, text),
-        Op::Answer => answer(bench, payload, text),
-        Op::PowerOn => power_on(bench, text),
-        Op::SetReader => set_reader(bench, payload, text),
-        Op::Buffers => put_buffers(bench, text),
-        Op::Request => bench.done(put_request(payload, text)),
-        Op::Reading => bench.done(put_reading(payload, text)),
+        Op::PointFrame => bench.done(put_point_frame(payload, row)),
+        Op::AddressedFrame => bench.done(put_addressed_frame(payload, row)),
+        Op::ImageLength => bench.done(put_image_length(payload, row)),
+        Op::Fcs => bench.done(put_fcs(payload, row)),
+        Op::Sum => bench.done(put_sum(payload, row)),
+        Op::HearPoint => hear_point(bench, payload, row),
+        Op::NewStation => new_station(bench, payload, row),
+        Op::HearAddressed => hear_addressed(bench, payload, row),
+        Op::SetReceiver => set_receiver(bench, payload, row),
+        Op::Answer => answer(bench, payload, row),
+        Op::PowerOn => power_on(bench, row),
+        Op::SetReader => set_reader(bench, payload, row),
+        Op::Buffers => put_buffers(bench, row),
+        Op::Request => bench.done(put_request(payload, row)),
+        Op::Reading => bench.done(put_reading(payload, row)),
+        Op::SetHeader => set_header(bench, payload, row),
     }
 }

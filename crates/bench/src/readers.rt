@@ -3,8 +3,10 @@ use crate::bench::Bench;
 use crate::bench::Done;
 use crate::buffer::front;
 use crate::buffer::front_mut;
-use crate::buffer::length;
-use crate::line::Text;
+use crate::number::number_at;
+use crate::number::one_byte;
+use crate::row::Row;
+use ground::put;
 use link::Event;
 use reader::Answer;
 use reader::Buffer;
@@ -12,10 +14,11 @@ use reader::Memory;
 use reader::Parameters;
 use reader::Reader;
 use reader::to_send;
+use request::CELL_LENGTH;
 use request::HEADER_LENGTH;
-use request::header;
+use request::SETTINGS_LENGTH;
 ghost use Prim.Native.Nat.{_≤_};
-ghost use lib.ListN.{length as lengthOf};
+ghost use lib.ListN.{length};
 
 // How many bytes of each buffer's front are lent.
 struct Rooms {
@@ -24,22 +27,22 @@ struct Rooms {
 }
 
 // Payload: event, antenna count, store room, out room, antenna, content.
-pub(crate) fn answer(bench: Bench, payload: &[u8], text: Text) -> Done {
-    if payload.len() < 4 {
-        return bench.short(text);
+pub(crate) fn answer(bench: Bench, payload: &[u8], row: Row) -> Done {
+    if payload.len() < 6 {
+        return bench.short(row);
     }
-    let count = length(payload[1]);
-    let rest = &payload[4..];
+    let count = one_byte(payload[1]);
+    let rest = &payload[6..];
     if rest.len() < count {
-        return bench.short(text);
+        return bench.short(row);
     }
     let rooms = Rooms {
-        store: length(payload[2]),
-        out: length(payload[3]),
+        store: number_at(payload, 2),
+        out: number_at(payload, 4),
     };
     let antenna = front(rest, count);
     let content = &rest[count..];
-    answer_event(bench, event(payload[0]), content, antenna, rooms, text)
+    answer_event(bench, event(payload[0]), content, antenna, rooms, row)
 }
 
 fn answer_event(
@@ -48,14 +51,14 @@ fn answer_event(
     content: &[u8],
     antenna: &[u8],
     rooms: Rooms,
-    text: Text,
+    row: Row,
 ) -> Done {
     let reader = bench.reader;
     let mut store = bench.store;
     let mut out = bench.out;
     let lent_store = front_mut(&mut store, rooms.store);
     let lent_out = front_mut(&mut out, rooms.out);
-    let header = device_header();
+    let header = bench.header;
     let answer = reader::answer(
         reader,
         event,
@@ -71,21 +74,8 @@ fn answer_event(
     bench.out = out;
     let store_front = front(&store, rooms.store);
     let out_front = front(&out, rooms.out);
-    let text = put_answer(answer, store_front, out_front, text);
-    bench.done(put_reader(reader, text))
-}
-
-// The bytes 00, 01, .. 27: a name of 20 bytes, and five numbers, low byte first.
-fn device_header() -> [u8; HEADER_LENGTH] {
-    let name = *b"\x00\x01\x02\x03\x04\x05\x06\x07\x08\x09\x0A\x0B\x0C\x0D\x0E\x0F\x10\x11\x12\x13";
-    header(
-        name,
-        0x17161514,
-        0x1B1A1918,
-        0x1F1E1D1C,
-        0x23222120,
-        0x27262524,
-    )
+    let row = put_answer(answer, store_front, out_front, row);
+    bench.done(put_reader(reader, row))
 }
 
 fn event(byte: u8) -> Event {
@@ -100,76 +90,74 @@ fn event(byte: u8) -> Event {
     }
 }
 
-fn put_answer<'a>(answer: Answer, store: &'a [u8], out: &'a [u8], text: Text) -> Text {
+fn put_answer<'a>(answer: Answer, store: &'a [u8], out: &'a [u8], row: Row) -> Row {
     let refusal = answer.refusal;
     let buffer = answer.buffer;
     let length = answer.length;
-    put_buffer(buffer, text.refusal(refusal))
+    put_buffer(buffer, row.refusal(refusal))
         .number(length)
         .bytes(to_send(buffer, length, store, out))
 }
 
-fn put_buffer(buffer: Buffer, text: Text) -> Text {
+fn put_buffer(buffer: Buffer, row: Row) -> Row {
     match buffer {
-        Buffer::Out => text.word(b"out"),
-        Buffer::Store => text.word(b"store"),
+        Buffer::Out => row.word(b"out"),
+        Buffer::Store => row.word(b"store"),
     }
 }
 
-// The reader's record: the parameters, and the last executed command with its length.
-fn put_reader(reader: Reader, text: Text) -> Text {
+// The reader's state: the parameters, and the last executed command with its length.
+fn put_reader(reader: Reader, row: Row) -> Row {
     let parameters = reader.parameters;
+    let memory = reader.memory;
+    put_memory(memory, put_parameters(parameters, row))
+}
+
+fn put_parameters(parameters: Parameters, row: Row) -> Row {
     let settings = parameters.settings;
     let cell = parameters.cell;
-    let text = text.bytes(&[parameters.speed])
-        .bytes(&settings)
-        .bytes(&cell);
-    let memory = reader.memory;
+    row.bytes(&[parameters.speed]).bytes(&settings).bytes(&cell)
+}
+
+fn put_memory(memory: Memory, row: Row) -> Row {
     match memory {
-        Memory::None => text.word(b"- -"),
+        Memory::None => row.word(b"- -"),
         Memory::Last {
             identifier,
             command,
             length,
-        } => text.bytes(&[identifier, command]).number(length),
+        } => row.bytes(&[identifier, command]).number(length),
     }
 }
 
-pub(crate) fn power_on(mut bench: Bench, text: Text) -> Done {
+pub(crate) fn power_on(mut bench: Bench, row: Row) -> Done {
     let reader = bench.reader;
     let powered = reader::power_on(reader);
     let refusal = powered.refusal;
     let reader = powered.reader;
     bench.reader = reader;
-    bench.done(put_reader(reader, text.refusal(refusal)))
+    bench.done(put_reader(reader, row.refusal(refusal)))
 }
 
 // Payload: speed, parameter 05, parameter 80, has, identifier, command, length. Puts no field.
-pub(crate) fn set_reader(mut bench: Bench, payload: &[u8], text: Text) -> Done {
-    if payload.len() < 17 {
-        return bench.short(text);
+pub(crate) fn set_reader(mut bench: Bench, payload: &[u8], row: Row) -> Done {
+    if payload.len() < 18 {
+        return bench.short(row);
     }
     let parameters = parameters(payload);
     let memory = memory(payload);
     let reader = Reader { parameters, memory };
     bench.reader = reader;
-    bench.done(text)
+    bench.done(row)
 }
 
 fn parameters(payload: &[u8]) -> Parameters
-    requires { ⌜ 17 ≤ lengthOf (now payload) ⌝ }
+    requires { ⌜ 18 ≤ length (now payload) ⌝ }
 {
-    let settings = [payload[1], payload[2], payload[3], payload[4]];
-    let cell = [
-        payload[5],
-        payload[6],
-        payload[7],
-        payload[8],
-        payload[9],
-        payload[10],
-        payload[11],
-        payload[12],
-    ];
+    let mut settings = [0u8; SETTINGS_LENGTH];
+    put(&payload[1..5], &mut settings, 0);
+    let mut cell = [0u8; CELL_LENGTH];
+    put(&payload[5..13], &mut cell, 0);
     Parameters {
         speed: payload[0],
         settings,
@@ -178,7 +166,7 @@ fn parameters(payload: &[u8]) -> Parameters
 }
 
 fn memory(payload: &[u8]) -> Memory
-    requires { ⌜ 17 ≤ lengthOf (now payload) ⌝ }
+    requires { ⌜ 18 ≤ length (now payload) ⌝ }
 {
     if payload[13] == 0 {
         return Memory::None;
@@ -186,12 +174,23 @@ fn memory(payload: &[u8]) -> Memory
     Memory::Last {
         identifier: payload[14],
         command: payload[15],
-        length: length(payload[16]),
+        length: number_at(payload, 16),
     }
 }
 
-pub(crate) fn put_buffers(bench: Bench, text: Text) -> Done {
+// Payload: header. Puts no field.
+pub(crate) fn set_header(mut bench: Bench, payload: &[u8], row: Row) -> Done {
+    if payload.len() < HEADER_LENGTH {
+        return bench.short(row);
+    }
+    let mut header = bench.header;
+    put(&payload[0..HEADER_LENGTH], &mut header, 0);
+    bench.header = header;
+    bench.done(row)
+}
+
+pub(crate) fn put_buffers(bench: Bench, row: Row) -> Done {
     let out = bench.out;
     let store = bench.store;
-    bench.done(text.bytes(&out).bytes(&store))
+    bench.done(row.bytes(&out).bytes(&store))
 }

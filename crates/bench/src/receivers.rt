@@ -2,8 +2,8 @@
 use crate::bench::Bench;
 use crate::bench::Done;
 use crate::buffer::front;
-use crate::buffer::length;
-use crate::line::Text;
+use crate::number::number_at;
+use crate::row::Row;
 use ground::number;
 use link::Event;
 use link::Heard;
@@ -13,49 +13,51 @@ use link::Station;
 use link::fresh_addressed;
 use link::receive;
 use wire::MOST_CONTENT;
+ghost use Prim.Native.Nat.{_≤_};
+ghost use lib.ListN.{length};
 
-pub(crate) fn hear_point(mut bench: Bench, piece: &[u8], text: Text) -> Done {
+pub(crate) fn hear_point(mut bench: Bench, piece: &[u8], row: Row) -> Done {
     let receiver = bench.point;
     let heard = receive(receiver, piece);
     let receiver = heard.receiver;
     bench.point = receiver;
-    bench.done(put_heard(heard, text))
+    bench.done(put_heard(heard, row))
 }
 
-pub(crate) fn hear_addressed(mut bench: Bench, piece: &[u8], text: Text) -> Done {
+pub(crate) fn hear_addressed(mut bench: Bench, piece: &[u8], row: Row) -> Done {
     let receiver = bench.addressed;
     let heard = receive(receiver, piece);
     let receiver = heard.receiver;
     bench.addressed = receiver;
-    bench.done(put_heard(heard, text))
+    bench.done(put_heard(heard, row))
 }
 
-fn put_heard(heard: Heard, text: Text) -> Text {
+fn put_heard(heard: Heard, row: Row) -> Row {
     let refusal = heard.refusal;
     let event = heard.event;
     let content = heard.content;
     let length = heard.length;
-    put_event(event, text.refusal(refusal))
+    put_event(event, row.refusal(refusal))
         .number(heard.taken)
         .bytes(front(&content, length))
 }
 
-fn put_event(event: Event, text: Text) -> Text {
+fn put_event(event: Event, row: Row) -> Row {
     match event {
-        Event::None => text.word(b"NONE"),
-        Event::Frame => text.word(b"FRAME"),
-        Event::Check => text.word(b"CHECK"),
-        Event::Short => text.word(b"SHORT"),
-        Event::Long => text.word(b"LONG"),
-        Event::Pair => text.word(b"PAIR"),
-        Event::Addr => text.word(b"ADDR"),
+        Event::None => row.word(b"NONE"),
+        Event::Frame => row.word(b"FRAME"),
+        Event::Check => row.word(b"CHECK"),
+        Event::Short => row.word(b"SHORT"),
+        Event::Long => row.word(b"LONG"),
+        Event::Pair => row.word(b"PAIR"),
+        Event::Addr => row.word(b"ADDR"),
     }
 }
 
 // Payload: address. Where it is refused the receiver stays.
-pub(crate) fn new_station(mut bench: Bench, payload: &[u8], text: Text) -> Done {
+pub(crate) fn new_station(mut bench: Bench, payload: &[u8], row: Row) -> Done {
     if payload.len() < 1 {
-        return bench.short(text);
+        return bench.short(row);
     }
     let fresh = fresh_addressed(payload[0]);
     let refusal = fresh.refusal;
@@ -63,30 +65,39 @@ pub(crate) fn new_station(mut bench: Bench, payload: &[u8], text: Text) -> Done 
         let receiver = fresh.receiver;
         bench.addressed = receiver;
     }
-    bench.done(text.refusal(refusal))
+    bench.done(row.refusal(refusal))
 }
 
 // Payload: line, address, phase, count, fill. Puts no field.
-pub(crate) fn set_receiver(mut bench: Bench, payload: &[u8], text: Text) -> Done {
-    if payload.len() < 5 {
-        return bench.short(text);
+pub(crate) fn set_receiver(mut bench: Bench, payload: &[u8], row: Row) -> Done {
+    if payload.len() < 6 {
+        return bench.short(row);
     }
-    let line = if payload[0] == 0 {
-        Station::Point
+    let receiver = receiver(payload);
+    if payload[0] == 0 {
+        bench.point = receiver;
     } else {
-        Station::Addressed(payload[1])
-    };
-    let receiver = Receiver {
-        line,
-        phase: phase(payload[2]),
-        count: length(payload[3]),
-        content: [payload[4]; MOST_CONTENT],
-    };
-    match line {
-        Station::Point => bench.point = receiver,
-        Station::Addressed(_) => bench.addressed = receiver,
+        bench.addressed = receiver;
     }
-    bench.done(text)
+    bench.done(row)
+}
+
+fn receiver(payload: &[u8]) -> Receiver
+    requires { ⌜ 6 ≤ length (now payload) ⌝ }
+{
+    Receiver {
+        station: station(payload[0], payload[1]),
+        phase: phase(payload[2]),
+        count: number_at(payload, 3),
+        content: [payload[5]; MOST_CONTENT],
+    }
+}
+
+fn station(line: u8, address: u8) -> Station {
+    match line {
+        0 => Station::Point,
+        _ => Station::Addressed(address),
+    }
 }
 
 fn phase(byte: u8) -> Phase {

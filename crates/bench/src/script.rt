@@ -1,71 +1,81 @@
 // The script on standard input.
-use crate::buffer::MOST_LENGTH;
 use crate::buffer::front_mut;
-use crate::buffer::length;
+use crate::number::two_bytes;
 use crate::op::Coded;
 use crate::op::Op;
 use crate::op::with_code;
 use libc::STDIN_FILENO;
 
-// What the script goes on with: a record, its end, a record that is cut off, or an unknown op.
+// What the script goes on with: a record, of this op with this code and a payload of so many bytes, or none.
 pub(crate) enum Next {
-    Record(Op),
+    Record(Op, u8, usize),
+    None(Ending),
+}
+
+// Why no record follows: the script ends, in a record or not, it has an unknown op, or a read failed.
+pub(crate) enum Ending {
     End,
     Cut,
     Bad,
+    Failed,
 }
 
-// A record has its op's code, and its payload is the first `length` bytes; without a record all are 0.
-pub(crate) struct Record {
-    pub(crate) next: Next,
-    pub(crate) code: u8,
-    pub(crate) payload: [u8; MOST_LENGTH],
-    pub(crate) length: usize,
+// A part of the script: it was read, the script ended before that, or a read failed.
+enum Part {
+    Whole,
+    Ended,
+    Failed,
 }
 
-enum Byte {
-    Read(u8),
-    None,
+// Reads the next record; its payload stands at the front of `space`.
+pub(crate) fn read_record(space: &mut [u8]) -> Next {
+    let mut code = [0u8; 1];
+    let part = read_part(&mut code);
+    match part {
+        Part::Whole => read_coded(code[0], space),
+        Part::Ended => Next::None(Ending::End),
+        Part::Failed => Next::None(Ending::Failed),
+    }
 }
 
-pub(crate) fn read_record() -> Record {
-    let Byte::Read(code) = read_byte() else {
-        return Record::without(Next::End);
-    };
+// Reads what follows an op's code.
+fn read_coded(code: u8, space: &mut [u8]) -> Next {
     let Coded::Known(op) = with_code(code) else {
-        return Record::without(Next::Bad);
+        return Next::None(Ending::Bad);
     };
-    let Byte::Read(byte) = read_byte() else {
-        return Record::without(Next::Cut);
-    };
-    let length = length(byte);
-    let mut payload = [0u8; MOST_LENGTH];
-    if io::read_full(STDIN_FILENO, front_mut(&mut payload, length)) < length {
-        return Record::without(Next::Cut);
-    }
-    Record {
-        next: Next::Record(op),
-        code,
-        payload,
-        length,
+    let mut length = [0u8; 2];
+    let part = read_part(&mut length);
+    match part {
+        Part::Whole => read_payload(op, code, two_bytes(length[0], length[1]), space),
+        Part::Ended => Next::None(Ending::Cut),
+        Part::Failed => Next::None(Ending::Failed),
     }
 }
 
-fn read_byte() -> Byte {
-    let mut byte = [0u8; 1];
-    if io::read_full(STDIN_FILENO, &mut byte) == 0 {
-        return Byte::None;
+// Reads a payload of this length.
+fn read_payload(op: Op, code: u8, length: usize, space: &mut [u8]) -> Next {
+    let part = read_part(front_mut(space, length));
+    match part {
+        Part::Whole => Next::Record(op, code, length),
+        Part::Ended => Next::None(Ending::Cut),
+        Part::Failed => Next::None(Ending::Failed),
     }
-    Byte::Read(byte[0])
 }
 
-impl Record {
-    fn without(next: Next) -> Record {
-        Record {
-            next,
-            code: 0,
-            payload: [0u8; MOST_LENGTH],
-            length: 0,
+// Reads until all of `part` is filled.
+fn read_part(part: &mut [u8]) -> Part {
+    let mut done: usize = 0;
+    while done < part.len() {
+        let rest = &mut part[done..];
+        let got = libc::read(STDIN_FILENO, rest);
+        if got < 0 {
+            return Part::Failed;
         }
+        let count = io::count(got, rest);
+        if count == 0 {
+            return Part::Ended;
+        }
+        done += count;
     }
+    Part::Whole
 }

@@ -84,9 +84,9 @@ pub record Demand2 : Type 0 where
       → powering r ≡ poweredOn (stateOf s) → number (r .refusal) ≡ 0
   -- what was written to a parameter is what a later read sends, until another write of it
   pub values : {alone : Bool} {s t : Reader} {held kept : List ℕ} {h k : History} {p : Parameter} → ReaderSession alone s held h
-      → (w : Call alone h s held) → Done w → isExecuted h (w .input) ≡ true → asksFor h (w .input) ≡ Accepted (Write p)
+      → (w : Call alone h s held) → Done w → isExecuted h (w .input) ≡ true → asksFor (w .input) ≡ Accepted (Write p)
       → Unwritten alone p (w .answer .reader) (w .left .store) (nextHistory h (w .input)) t kept k
-      → (r : Call alone k t kept) → Done r → isExecuted k (r .input) ≡ true → asksFor k (r .input) ≡ Accepted (Read p)
+      → (r : Call alone k t kept) → Done r → isExecuted k (r .input) ≡ true → asksFor (r .input) ≡ Accepted (Read p)
       → bytesSent r ≡ replyImage (identifierOf (r .input .content)) (commandOf (r .input .content)) (DATA (drop 1 (dataOf (w .input .content))))
   -- after a command was executed, and any calls that execute nothing and leave what is remembered of the store, a frame with its identifier and
   -- command, in a call that is not refused, gets the stored reply and changes nothing

@@ -38,7 +38,7 @@ module _ {alone : Bool} {h : History} {s : Reader} {held : List ℕ} (c : Call a
   -- command did, and with it as the last one executed.
   pub record RequestExecuted : Type 0 where
     pub command : Command
-    pub asked : asksFor h (c .input) ≡ Accepted command
+    pub asked : asksFor (c .input) ≡ Accepted command
     pub done : Done c
     pub sends : bytesSent c ≡ bytesOf (c .input .content) (some (replyTo (h .value) command (c .input .header) (c .input .antenna)))
     pub reply : IsAnswer (replyTo (h .value) command (c .input .header) (c .input .antenna))
@@ -48,7 +48,7 @@ module _ {alone : Bool} {h : History} {s : Reader} {held : List ℕ} (c : Call a
   -- the reader's state nor the store changed.
   pub record RequestNacked : Type 0 where
     pub fault : Fault
-    pub asked : asksFor h (c .input) ≡ Refused fault
+    pub asked : asksFor (c .input) ≡ Refused fault
     pub done : Done c
     pub sends : bytesSent c ≡ replyImage (identifierOf (c .input .content)) sign (NACK (nackOf fault))
     pub state : stateOf (c .answer .reader) ≡ stateOf s

@@ -11,7 +11,11 @@ use tape::write_last;
 ghost use Prim.Native.Nat.{_≤_};
 ghost use Rattle.tape_spec.specs.Limits.{mostRecords};
 
-// Where the listing stands: more of the tape is read, nothing further of it is, or a write failed.
+// A Rattle program has no exit status. Where all was read and written it says so by a byte on this descriptor, for which tools/start waits;
+// started without tools/start, the descriptor is closed and the write comes to nothing.
+const DONE: i32 = 3;
+
+// Where the listing stands: more of the tape is read, nothing further of it is, or a read or a write failed or the tape was refused.
 enum Course {
     Reading,
     Over,
@@ -32,7 +36,7 @@ fn print(text: &[u8]) -> bool {
     is_written
 }
 
-// Lists all of a chunk that is read; `text` is where the lines are put together.
+// Lists all of a chunk that is read; `text` is where the rows are put together.
 fn list_chunk(tape: Tape, chunk: &[u8], text: &mut [u8]) -> Progress
     requires { ⌜ tape .records ≤ mostRecords ⌝ }
     ensures { λ r. ⌜ r .tape .records ≤ mostRecords ⌝ }
@@ -62,7 +66,7 @@ fn list_chunk(tape: Tape, chunk: &[u8], text: &mut [u8]) -> Progress
     Progress { tape, course }
 }
 
-// Behind a call that took nothing: nothing further is read. Were it refused instead, the listing would not be whole.
+// After a call that took nothing: nothing further is read. Were it refused instead, the listing would not be whole.
 fn halted(tape: Tape) -> Progress
     requires { ⌜ tape .records ≤ mostRecords ⌝ }
     ensures { λ r. ⌜ r .tape .records ≤ mostRecords ⌝ }
@@ -106,8 +110,8 @@ fn list_block(tape: Tape, block: &mut [u8], text: &mut [u8]) -> Progress
 // No tape is read further than 2^33 - 1 bytes, and a block has one at least.
 const MOST_BLOCKS: u64 = 0x2_0000_0000;
 
-// Lists a whole tape.
-fn list_tape(text: &mut [u8]) {
+// Lists a whole tape; whether all was read and written, with the last row.
+fn list_tape(text: &mut [u8]) -> bool {
     let mut block = io::large_buffer();
     let mut tape = fresh_tape();
     let mut turns = MOST_BLOCKS;
@@ -119,19 +123,22 @@ fn list_tape(text: &mut [u8]) {
         match course {
             Course::Reading => {}
             Course::Over => turns = 0,
-            Course::Failed => return,
+            Course::Failed => return false,
         }
     }
     let last = write_last(tape, text);
     let end = last.end;
-    print(&text[..end]);
+    print(&text[..end])
 }
 
 fn main() {
     let mut text = io::large_buffer();
     let header = write_header(&mut text);
     let end = header.end;
-    if print(&text[..end]) {
-        list_tape(&mut text);
+    if !print(&text[..end]) {
+        return;
+    }
+    if list_tape(&mut text) {
+        io::write_all(DONE, b"1");
     }
 }

@@ -1,5 +1,5 @@
--- A reader over many calls. What it has to remember and to answer is told from the calls' inputs, and from whether a call was refused: no
--- definition here looks into its state. Demand 2, of repeats: a request that repeats the identifier and command of the last one executed
+-- A reader over many calls. What it has to remember and to answer is told from the calls' inputs, and from whether a call was refused; a
+-- session hands the reader on from call to call, and nothing that is told looks into it. Demand 2, of repeats: a request that repeats the identifier and command of the last one executed
 -- since power-on gets the stored reply and executes nothing. 01, The point reader. Assumes nothing.
 use Prim.Native.Nat.{ℕ}
 use mathlib.Core.Path.{_≡_}
@@ -91,14 +91,14 @@ abbrev pub bytesOf : List ℕ → Option Reply → List ℕ
 bytesOf content none = []
 bytesOf content (some reply) = replyImage (identifierOf content) (commandOf content) reply
 
+-- what the code and data of an input ask for
+abbrev pub asksFor : Input → Acceptance
+asksFor i = acceptance (commandOf (i .content)) (dataOf (i .content))
+
 module _ (h : History) (i : Input) where
   -- the input's identifier and command are those of the last executed command
   abbrev pub repeatsLast : Bool
   repeatsLast = repeats (h .last) (identifierOf (i .content)) (commandOf (i .content))
-
-  -- what its code and data ask for
-  abbrev pub asksFor : Acceptance
-  asksFor = acceptance (commandOf (i .content)) (dataOf (i .content))
 
   -- step 6: executed, and remembered; steps 4 and 5: not
   abbrev pub judgedHistory : Acceptance → History
@@ -116,7 +116,7 @@ module _ (h : History) (i : Input) where
 
   -- what is told after a call that was not refused
   abbrev pub nextHistoryAs : Asking → History
-  nextHistoryAs asked = cond (isFrame asked) (cond repeatsLast h (judgedHistory asksFor)) h
+  nextHistoryAs asked = cond (isFrame asked) (cond repeatsLast h (judgedHistory (asksFor i))) h
 
   abbrev pub nextHistory : History
   nextHistory = nextHistoryAs (asking (i .event))
@@ -134,7 +134,7 @@ module _ (h : History) (i : Input) where
   abbrev pub dueAs : Asking → Option Reply
   dueAs Nothing = none
   dueAs Wrong = some (NACK wrongCheck)
-  dueAs Right = cond repeatsLast (Option·map (λ (e : Execution). e .reply) (h .last)) (some (judgedReply asksFor))
+  dueAs Right = cond repeatsLast (Option·map (λ (e : Execution). e .reply) (h .last)) (some (judgedReply (asksFor i)))
 
   abbrev pub replyDue : Option Reply
   replyDue = dueAs (asking (i .event))
@@ -148,7 +148,7 @@ module _ (h : History) (i : Input) where
 
   -- a FRAME that is executed, unless the call refuses: no repeat, and accepted
   abbrev pub isExecutedAs : Asking → Bool
-  isExecutedAs asked = isFrame asked && (not repeatsLast && isAccepted asksFor)
+  isExecutedAs asked = isFrame asked && (not repeatsLast && isAccepted (asksFor i))
 
   abbrev pub isExecuted : Bool
   isExecuted = isExecutedAs (asking (i .event))
@@ -218,5 +218,5 @@ pub data Unwritten (alone : Bool) (p : Parameter) (s : Reader) (held : List ℕ)
       → Unwritten alone p s held h (r .reader) kept (poweredBy k (number (r .refusal)))
   other : {t : Reader} {kept : List ℕ} {k : History} → Unwritten alone p s held h t kept k
       → (c : Call alone k t kept)
-      → (Done c → isExecuted k (c .input) ≡ true → asksFor k (c .input) ≡ Accepted (Write p) → ⊥)
+      → (Done c → isExecuted k (c .input) ≡ true → asksFor (c .input) ≡ Accepted (Write p) → ⊥)
       → Unwritten alone p s held h (c .answer .reader) (c .left .store) (historyAfter c)

@@ -28,7 +28,7 @@ use Rattle.demands.specs.Exchanging.{Asks, RequestExecuted, RequestNacke
 module _ {alone : Bool} {s : Reader} {held : List ℕ} {h : History} (se : ReaderSession alone s held h) (c : Call alone h s held)
     (identifier code : ℕ) («data» : List ℕ) (asks : Asks c identifier code «data») where
   -- what it is asked for, and that it is new, told from its input
-  pub asked-is : asksFor h (c .input) ≡ acceptance code «data»
+  pub asked-is : asksFor (c .input) ≡ acceptance code «data»
   asked-is = ap (λ (l : List ℕ). acceptance (commandOf l) (dataOf l)) (asks .content)
 
   new : repeatsLast h (c .input) ≡ false

@@ -32,7 +32,7 @@ said = received (freshReceiver Point) (take 6 (pointWritten 0x00 0x00 [] (replic
 hears : (c : tie.After-receive) → saying (c .receive .result) ≡ said
 unfolding said
 hears c =
-    let w = c .before .before .before .before .before .before .before in
+    let w = c .before .before .before .before .before .before .before .before in
     c .receive .ensures
     ∙ ap₂ received (c .before .before .fresh-point .ensures) (ap₂ take (counts w) (ap (λ (a : After). a .out) (w .write-point .ensures)))
 
@@ -62,11 +62,14 @@ slice-aggregate-print c = sym (length-take-le _ _ (array-share-prefix-out (c .be
 print-requires : tie.Need-print-requires
 print-requires c κs = search needs
 
+returns : tie.Need-returns
+returns c = search needs
+
 fresh-point-requires : tie.Need-fresh-point-requires
 fresh-point-requires c κs = search needs
 
 array-share-prefix-out-2 : tie.Need-array-share-prefix-out-2
-array-share-prefix-out-2 c = array-share-prefix-out (c .before .before .before)
+array-share-prefix-out-2 c = array-share-prefix-out (c .before .before .before .before)
 
 slice-aggregate-receive : tie.Need-slice-aggregate-receive
 slice-aggregate-receive c = sym (length-take-le _ _ (array-share-prefix-out-2 (c .before)))
@@ -77,8 +80,8 @@ receive-requires c κs = search needs
 enum-told : tie.Need-enum-told
 enum-told c = search needs
 
-returns : tie.Need-returns
-returns c = search needs
+returns-2 : tie.Need-returns-2
+returns-2 c = search needs
 
 expect-requires-2 : tie.Need-expect-requires-2
 expect-requires-2 c κs = eq-eqb (c .before .before .before .receive .result .length) 2 (carries (c .before .before .before) .0)
@@ -92,8 +95,17 @@ slice-aggregate-print-2 c = sym (length-take-le _ _ (array-share-prefix-content 
 print-requires-2 : tie.Need-print-requires-2
 print-requires-2 c κs = search needs
 
-returns-2 : tie.Need-returns-2
-returns-2 c = search needs
+slice-aggregate-write-all : tie.Need-slice-aggregate-write-all
+slice-aggregate-write-all c = search needs
+
+write-all-requires : tie.Need-write-all-requires
+write-all-requires c κs = search needs
+
+returns-3 : tie.Need-returns-3
+returns-3 c = search needs
+
+returns-4 : tie.Need-returns-4
+returns-4 c = search needs
 
 pub main-spec : {M : Type 1} → statement M
 main-spec =
@@ -106,14 +118,18 @@ main-spec =
     array-share-prefix-out
     slice-aggregate-print
     print-requires
+    returns
     fresh-point-requires
     array-share-prefix-out-2
     slice-aggregate-receive
     receive-requires
     enum-told
-    returns
+    returns-2
     expect-requires-2
     array-share-prefix-content
     slice-aggregate-print-2
     print-requires-2
-    returns-2)
+    slice-aggregate-write-all
+    write-all-requires
+    returns-3
+    returns-4)

@@ -1,4 +1,4 @@
--- `list_chunk` meets its contract: a call takes no more than was left, and writes no more than the buffer holds.
+-- `list_chunk`: a call takes no more than was left of the chunk, and writes no more than the buffer holds.
 -- Assumes nothing.
 use mathlib.Core.Path.{_≡_, refl, sym, ap, subst⁻¹, _∙_}
 use mathlib.Core.List.{List}

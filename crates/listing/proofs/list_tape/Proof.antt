@@ -1,4 +1,4 @@
--- `list_tape` meets its contract: the buffers keep their lengths, and the last line ends within its own.
+-- `list_tape`: a block leaves both buffers as long as they were, so the last row ends within its own; each turn leaves fewer to read.
 -- Assumes nothing.
 use mathlib.Core.Path.{_≡_, refl, sym, ap}
 use Prim.Native.Nat.{_≤_, zero-le}

@@ -1,4 +1,4 @@
--- `main` meets its contract: the header line ends within the buffer.
+-- `main`: the header row ends within the buffer, refused or not, and the buffer stays as long as it is made.
 -- Assumes nothing.
 use mathlib.Core.Path.{sym}
 use Prim.Native.Nat.{zero-le}
@@ -31,17 +31,26 @@ slice-aggregate-print c = sym (length-take-le _ _ (array-share-prefix-text (c .b
 print-requires : tie.Need-print-requires
 print-requires c κs = search needs
 
+returns : tie.Need-returns
+returns c = search needs
+
 slice-aggregate-list-tape : tie.Need-slice-aggregate-list-tape
 slice-aggregate-list-tape c = search needs
 
 list-tape-requires : tie.Need-list-tape-requires
 list-tape-requires c κs = search needs
 
-returns : tie.Need-returns
-returns c = search needs
+slice-aggregate-write-all : tie.Need-slice-aggregate-write-all
+slice-aggregate-write-all c = search needs
+
+write-all-requires : tie.Need-write-all-requires
+write-all-requires c κs = search needs
 
 returns-2 : tie.Need-returns-2
 returns-2 c = search needs
+
+returns-3 : tie.Need-returns-3
+returns-3 c = search needs
 
 pub main-spec : {M : Type 1} → statement M
 main-spec =
@@ -53,7 +62,10 @@ main-spec =
     array-share-prefix-text
     slice-aggregate-print
     print-requires
+    returns
     slice-aggregate-list-tape
     list-tape-requires
-    returns
-    returns-2)
+    slice-aggregate-write-all
+    write-all-requires
+    returns-2
+    returns-3)

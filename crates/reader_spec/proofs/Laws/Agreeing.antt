@@ -221,7 +221,7 @@ module _ (alone : Bool) (s : State) (i : Input) (lent : Buffers) (whole : length
   frame-agrees : (h : History) → Agrees alone s (lent .store) h
       → StepAgrees alone (nextHistoryAs h i Right) (bytesOf (i .content) (dueAs h i Right)) (repeatsLast h i) (framed s i lent)
   frame-agrees h a =
-      let k = asksFor h i in
+      let k = asksFor i in
       subst⁻¹ (StepAgrees alone (nextHistoryAs h i Right) (bytesOf (i .content) (dueAs h i Right)) (repeatsLast h i))
       (framed-told s i lent (h .last) (a .memory))
       (by-test
@@ -236,8 +236,8 @@ module _ (alone : Bool) (s : State) (i : Input) (lent : Buffers) (whole : length
       P : (Parameter → List ℕ) → Type 0
       P v =
           let h′ : History = record { value = v; last = h .last } in
-          StepAgrees alone (judgedHistory h′ i (asksFor h i)) (bytesOf (i .content) (some (judgedReply h′ i (asksFor h i)))) false
-          (judged s i lent (asksFor h i))
+          StepAgrees alone (judgedHistory h′ i (asksFor i)) (bytesOf (i .content) (some (judgedReply h′ i (asksFor i)))) false
+          (judged s i lent (asksFor i))
 
   -- each step
   pub step-agrees : (asked : Asking) (h : History) → Agrees alone s (lent .store) h

@@ -219,7 +219,7 @@ module _ (s : State) (i : Input) (lent : Buffers) where
     store : drop (a .length) (a .left .store) ≡ drop (a .length) (lent .store)
     out : drop (a .length) (a .left .out) ≡ drop (a .length) (lent .out)
 
-  nack-kept : (identifier n : ℕ) → Kept (nacked s identifier n lent)
+  nack-kept : {t : State} (identifier n : ℕ) → Kept (nacked t identifier n lent)
   nack-kept identifier n = record { none = refl; store = refl; out = drop-append-seam (replyImage identifier sign (NACK n)) _ }
 
   judged-kept : (k : Acceptance) → Kept (judged s i lent k)

@@ -36,8 +36,8 @@ executes-nothing-as : (h : History) (i : Input) (asked : Asking) → isExecutedA
 executes-nothing-as h i Nothing idle = refl
 executes-nothing-as h i Wrong idle = refl
 executes-nothing-as h i Right idle =
-    by-test (λ (t : Bool). (not t && isAccepted (asksFor h i)) ≡ false → cond t h (judgedHistory h i (asksFor h i)) ≡ h)
-    (repeatsLast h i) (λ _ _. refl) (λ _ n. judged-nothing h i (asksFor h i) n) idle
+    by-test (λ (t : Bool). (not t && isAccepted (asksFor i)) ≡ false → cond t h (judgedHistory h i (asksFor i)) ≡ h)
+    (repeatsLast h i) (λ _ _. refl) (λ _ n. judged-nothing h i (asksFor i) n) idle
 
 pub executes-nothing : (h : History) (i : Input) → isExecuted h i ≡ false → nextHistory h i ≡ h
 executes-nothing h i = executes-nothing-as h i (asking (i .event))
@@ -64,8 +64,8 @@ module _ (s : State) (i : Input) (lent : Buffers) where
   step-keeps Right h remembered idle =
       subst⁻¹ (Unchanged s lent) (framed-told s i lent (h .last) remembered)
       (by-test
-      (λ (t : Bool). (not t && isAccepted (asksFor h i)) ≡ false → Unchanged s lent (cond t (recalledAs s lent (h .last)) (judgedAs s i lent)))
-      (repeatsLast h i) (λ _ _. recalled-keeps (h .last)) (λ _ n. judged-keeps (asksFor h i) n) idle)
+      (λ (t : Bool). (not t && isAccepted (asksFor i)) ≡ false → Unchanged s lent (cond t (recalledAs s lent (h .last)) (judgedAs s i lent)))
+      (repeatsLast h i) (λ _ _. recalled-keeps (h .last)) (λ _ n. judged-keeps (asksFor i) n) idle)
 
 call-keeps : {alone : Bool} {h : History} {s : Reader} {held : List ℕ} → ReaderSession false s held h → (c : Call alone h s held)
     → (Done c → isExecuted h (c .input) ≡ false)

@@ -91,7 +91,7 @@ module _ {alone : Bool} {s : Reader} {held : List ℕ} {h : History} (se : Reade
     check-nacked is = rw is at session-sends (λ again. absurd (true≢false (sym again)))
 
     -- to a FRAME that repeats nothing the reply to what it asks for, and NACK 2 or 3 where it is not accepted
-    pub session-replies : {k : Acceptance} → c .input .event ≡ FRAME → repeatsLast h (c .input) ≡ false → asksFor h (c .input) ≡ k
+    pub session-replies : {k : Acceptance} → c .input .event ≡ FRAME → repeatsLast h (c .input) ≡ false → asksFor (c .input) ≡ k
         → bytesSent c
         ≡ replyImage (identifierOf (c .input .content)) (commandOf (c .input .content)) (judgedReply h (c .input) k)
     session-replies is new asked = rw (is, new, asked) at session-sends (λ again. absurd (true≢false (sym again)))
@@ -135,9 +135,9 @@ module _ {alone : Bool} {s : Reader} {held : List ℕ} {h : History} (se : Reade
 
     -- a command that is executed: the reply stands in both buffers
     module _ (does : isExecuted h (c .input) ≡ true) where
-      abbrev parts : (isFrame (asking (c .input .event)) ≡ true) × ((not (repeatsLast h (c .input)) && isAccepted (asksFor h (c .input))) ≡ true)
+      abbrev parts : (isFrame (asking (c .input .event)) ≡ true) × ((not (repeatsLast h (c .input)) && isAccepted (asksFor (c .input))) ≡ true)
       parts =
-          and-eq-true-iff (isFrame (asking (c .input .event))) (not (repeatsLast h (c .input)) && isAccepted (asksFor h (c .input))) .0 does
+          and-eq-true-iff (isFrame (asking (c .input .event))) (not (repeatsLast h (c .input)) && isAccepted (asksFor (c .input))) .0 does
 
       pub is-frame : asking (c .input .event) ≡ Right
       is-frame = of (asking (c .input .event)) (parts .0)
@@ -150,27 +150,27 @@ module _ {alone : Bool} {s : Reader} {held : List ℕ} {h : History} (se : Reade
       pub is-new : repeatsLast h (c .input) ≡ false
       is-new =
           by-test (λ (t : Bool). not t ≡ true → t ≡ false) (repeatsLast h (c .input)) (λ _ never. absurd (false≢true never)) (λ _ _. refl)
-          (and-eq-true-iff (not (repeatsLast h (c .input))) (isAccepted (asksFor h (c .input))) .0 (parts .1) .0)
+          (and-eq-true-iff (not (repeatsLast h (c .input))) (isAccepted (asksFor (c .input))) .0 (parts .1) .0)
 
       no-repeat : isRepeat h (c .input) ≡ false
       no-repeat =
           ap (λ (t : Bool). isFrame (asking (c .input .event)) && t) is-new ∙ and-false (isFrame (asking (c .input .event)))
 
-      pub is-accepted : (command : Command) × (asksFor h (c .input) ≡ Accepted command)
+      pub is-accepted : (command : Command) × (asksFor (c .input) ≡ Accepted command)
       is-accepted =
-          of (asksFor h (c .input)) refl
-          (and-eq-true-iff (not (repeatsLast h (c .input))) (isAccepted (asksFor h (c .input))) .0 (parts .1) .1)
+          of (asksFor (c .input)) refl
+          (and-eq-true-iff (not (repeatsLast h (c .input))) (isAccepted (asksFor (c .input))) .0 (parts .1) .1)
         where
-          of : (k : Acceptance) → asksFor h (c .input) ≡ k → isAccepted k ≡ true → (command : Command) × (asksFor h (c .input) ≡ Accepted command)
+          of : (k : Acceptance) → asksFor (c .input) ≡ k → isAccepted k ≡ true → (command : Command) × (asksFor (c .input) ≡ Accepted command)
           of (Accepted command) is fine = (command, is)
           of (Refused fault) is fine = absurd (false≢true fine)
 
-      pub call-executed : {command : Command} → asksFor h (c .input) ≡ Accepted command
+      pub call-executed : {command : Command} → asksFor (c .input) ≡ Accepted command
           → answerSays (c .answer) (c .left) ≡ executed (stateOf s) (c .input) (c .lent) command
       call-executed asked = call-framed is-frame ∙ rw (is-new, asked)
 
       -- and its reply is sent
-      pub executed-sends : {command : Command} → asksFor h (c .input) ≡ Accepted command
+      pub executed-sends : {command : Command} → asksFor (c .input) ≡ Accepted command
           → bytesSent c ≡ bytesOf (c .input .content) (some (replyTo (h .value) command (c .input .header) (c .input .antenna)))
       executed-sends asked =
           let sends : bytesSent c ≡ toSend h (c .input) = session-sends (λ again. absurd (true≢false (sym again ∙ no-repeat))) in

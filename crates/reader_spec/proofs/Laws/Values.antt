@@ -45,13 +45,13 @@ module _ (p : Parameter) (h : History) (i : Input) where
   judged-kept (Refused fault) not = refl
   judged-kept (Accepted command) not = values-kept command not
 
-  value-kept : (asked : Asking) → (asksFor h i ≡ Accepted (Write p) → ⊥) → nextHistoryAs h i asked .value p ≡ h .value p
+  value-kept : (asked : Asking) → (asksFor i ≡ Accepted (Write p) → ⊥) → nextHistoryAs h i asked .value p ≡ h .value p
   value-kept Nothing not = refl
   value-kept Wrong not = refl
   value-kept Right not =
-      cond-elim (λ (k : History). k .value p ≡ h .value p) (repeatsLast h i) (λ _. refl) (λ _. judged-kept (asksFor h i) not)
+      cond-elim (λ (k : History). k .value p ≡ h .value p) (repeatsLast h i) (λ _. refl) (λ _. judged-kept (asksFor i) not)
 
-  next-kept : (isExecuted h i ≡ true → asksFor h i ≡ Accepted (Write p) → ⊥) → nextHistory h i .value p ≡ h .value p
+  next-kept : (isExecuted h i ≡ true → asksFor i ≡ Accepted (Write p) → ⊥) → nextHistory h i .value p ≡ h .value p
   next-kept idle =
       by-test (λ _. nextHistory h i .value p ≡ h .value p) (isExecuted h i) (λ e. value-kept (asking (i .event)) (idle e))
       (λ e. ap (λ (k : History). k .value p) (executes-nothing h i e))
@@ -81,7 +81,7 @@ pub read-answers : {alone : Bool} {s : Reader} {held : List ℕ} {h : History} {
     → (c : Call alone h s held)
     → Done c
     → isExecuted h (c .input) ≡ true
-    → asksFor h (c .input) ≡ Accepted (Read p)
+    → asksFor (c .input) ≡ Accepted (Read p)
     → bytesSent c ≡ replyImage (identifierOf (c .input .content)) (commandOf (c .input .content)) (DATA (h .value p))
 unfolding replyTo
 read-answers se c done does asked = executed-sends se c done does asked
@@ -91,12 +91,12 @@ pub written-read : {alone : Bool} {s t : Reader} {held kept : List ℕ} {h k : H
     → (writes : Call alone h s held)
     → Done writes
     → isExecuted h (writes .input) ≡ true
-    → asksFor h (writes .input) ≡ Accepted (Write p)
+    → asksFor (writes .input) ≡ Accepted (Write p)
     → Unwritten alone p (writes .answer .reader) (writes .left .store) (nextHistory h (writes .input)) t kept k
     → (reads : Call alone k t kept)
     → Done reads
     → isExecuted k (reads .input) ≡ true
-    → asksFor k (reads .input) ≡ Accepted (Read p)
+    → asksFor (reads .input) ≡ Accepted (Read p)
     → bytesSent reads
     ≡ replyImage (identifierOf (reads .input .content)) (commandOf (reads .input .content)) (DATA (drop 1 (dataOf (writes .input .content))))
 written-read {h = h} {p = p} se writes done does asked later reads done′ does′ asked′ =
