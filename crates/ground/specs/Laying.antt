@@ -1,5 +1,5 @@
 -- Bytes laid into a buffer over what stood there.
--- 01, Refusal numbers, row 1 in its sense and below the table (docs/DECISIONS.md, ground). Assumes nothing.
+-- 01, Refusal numbers: a call of ours, refused with the number of row 1 (docs/DECISIONS.md, ground). Assumes nothing.
 use Prim.Native.Nat.{ℕ, _+_, _-_}
 use mathlib.Core.Bool.{cond}
 use mathlib.Core.List.{List, _++_}
