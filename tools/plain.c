@@ -2,6 +2,7 @@
 #include <stdint.h>
 #include <stdio.h>
 #include <string.h>
+#include <unistd.h>
 
 enum { START = 0xFD, STOP = 0xFE, ESCAPE = 0xFF, LEAST_CONTENT = 4, MOST_CONTENT = 64, MOST_LINE = 256 };
 enum phase { OUTSIDE, INSIDE, PENDING };
@@ -131,5 +132,7 @@ int main(void) {
         }
     }
     if (!last) last = kind ? "cut" : "end";
-    return !flush() || printf("%s %lu\n", last, (unsigned long)records) < 0;
+    if (!flush() || printf("%s %lu\n", last, (unsigned long)records) < 0 || fflush(stdout)) return 1;
+    /* what tools/start waits for */
+    return write(3, "1", 1) != 1;
 }

@@ -9,7 +9,7 @@ use Rattle.wire_spec.specs.Limits.{mostContent}
 use Rattle.wire_spec.specs.Image.{image}
 use Rattle.link_spec.specs.declared.station.Station.{Station}
 use Rattle.link_spec.specs.Limits.{leastContent}
-use Rattle.link_spec.specs.Station.{checked, Taken}
+use Rattle.link_spec.specs.Station.{checked, AddressTaken}
 use Rattle.link_spec.specs.Events.{FRAME}
 use Rattle.link_spec.specs.Hearing.{Told, toldAt}
 
@@ -22,7 +22,7 @@ pub record Stands (station : Station) (stream : List ℕ) (place : ℕ) (front :
   pub ends : place ≡ length before + length (image (checked station front))
   pub least : leastContent ≤ length (checked station front)
   pub most : length (checked station front) ≤ mostContent
-  pub address : Taken station (checked station front)
+  pub address : AddressTaken station (checked station front)
 
 -- places strictly rise, and are after this one
 abbrev pub PlacesRise : ℕ → List Told → Type 0

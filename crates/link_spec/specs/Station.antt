@@ -27,7 +27,7 @@ hasAddress (Addressed own) = isStation own
 
 -- on the addressed line a content begins with an address, and this station takes it; on the point line there is none, nor in a content
 -- with no byte yet
-abbrev pub Taken : Station → List ℕ → Type 0
-Taken Point content = Unit {0}
-Taken (Addressed own) [] = Unit {0}
-Taken (Addressed own) (address ∷ more) = takes own address ≡ true
+abbrev pub AddressTaken : Station → List ℕ → Type 0
+AddressTaken Point content = Unit {0}
+AddressTaken (Addressed own) [] = Unit {0}
+AddressTaken (Addressed own) (address ∷ more) = takes own address ≡ true

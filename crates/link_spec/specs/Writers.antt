@@ -27,19 +27,19 @@ unfoldable pub addressedWritten : ℕ → ℕ → ℕ → List ℕ → List ℕ 
 addressedWritten address identifier command «data» out =
     writtenUnless (isNever address) «data» (addressedContent address identifier command «data») out
 
--- The writer's rows of the refusal table, and the frame where no row applies, where `Refused` says that the address is FD..FF. `Laws.Writers`
+-- The writer's rows of the refusal table, and the frame where no row applies, where `NoAddress` says that the address is FD..FF. `Laws.Writers`
 -- proves that each writer answers by them, and that they leave it no other answer.
-pub data WriterTable (Refused : Type 0) («data» content out : List ℕ) : After → Type 0 where
-  tooLong : mostData < length «data» → WriterTable Refused «data» content out (notWritten TooLong out)
-  badAddress : length «data» ≤ mostData → Refused → WriterTable Refused «data» content out (notWritten BadAddress out)
+pub data WriterTable (NoAddress : Type 0) («data» content out : List ℕ) : After → Type 0 where
+  tooLong : mostData < length «data» → WriterTable NoAddress «data» content out (notWritten TooLong out)
+  badAddress : length «data» ≤ mostData → NoAddress → WriterTable NoAddress «data» content out (notWritten BadAddress out)
   noRoom : length «data» ≤ mostData
-      → (Refused → ⊥)
+      → (NoAddress → ⊥)
       → length out < length (image content)
-      → WriterTable Refused «data» content out (notWritten NoRoom out)
+      → WriterTable NoAddress «data» content out (notWritten NoRoom out)
   frame : length «data» ≤ mostData
-      → (Refused → ⊥)
+      → (NoAddress → ⊥)
       → length (image content) ≤ length out
-      → WriterTable Refused «data» content out (putting content out)
+      → WriterTable NoAddress «data» content out (putting content out)
 
 -- a point frame has no address: its writer never answers by the second row
 abbrev pub PointTable : ℕ → ℕ → List ℕ → List ℕ → After → Type 0

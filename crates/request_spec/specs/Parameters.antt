@@ -35,14 +35,14 @@ abbrev pub isSpeed : ℕ → Bool
 isSpeed v = leb 3 v && leb v 10
 
 -- for 02 a value 3..10; for the others any
-abbrev pub within : Parameter → List ℕ → Bool
-within Speed value = isSpeed (getD value 0 0)
-within Settings value = true
-within Cell value = true
+abbrev pub inRange : Parameter → List ℕ → Bool
+inRange Speed value = isSpeed (getD value 0 0)
+inRange Settings value = true
+inRange Cell value = true
 
 -- a value of exactly its length; for 02 a value 3..10
 unfoldable pub isValueOf : Parameter → List ℕ → Bool
-isValueOf p value = eqb (length value) (lengthOf p) && within p value
+isValueOf p value = eqb (length value) (lengthOf p) && inRange p value
 
 -- the same as a table: 02 has 1 byte, 3..10; 05 has 4 bytes; 80 has 8 bytes
 pub data IsValue : Parameter → List ℕ → Type 0 where

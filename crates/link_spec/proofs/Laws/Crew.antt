@@ -17,7 +17,7 @@ use Rattle.link_spec.specs.declared.station.Station.{Station}
 use Rattle.link_spec.specs.declared.station.Station.the-variants.{Point, Addressed}
 use Rattle.link_spec.specs.declared.receiver.Phase.the-variants.{Inside, Pending}
 use Rattle.link_spec.specs.declared.receiver.Turn.the-variants.{Wait, Keep, Stop}
-use Rattle.link_spec.specs.Station.{hasAddress, Taken}
+use Rattle.link_spec.specs.Station.{hasAddress, AddressTaken}
 use Rattle.link_spec.specs.Turning.{inside, within, turn}
 use Rattle.link_spec.specs.Rules.{first, Later, onPoint, afterFirst, ByRule, address, waits, plain, pair}
 use Rattle.link_spec.specs.Receiving.{outcome}
@@ -30,7 +30,7 @@ use Rattle.link_spec.proofs.Laws.Cuts.{tell}
 -- ---- what a content byte may be after those before it
 
 -- a byte that stands for itself is kept: as the address or after it
-plain-kept : (station : Station) (k : List ℕ) (b : ℕ) (c : List ℕ) → Taken station (k ++ (b ∷ c)) → special b ≡ false → length k < mostContent
+plain-kept : (station : Station) (k : List ℕ) (b : ℕ) (c : List ℕ) → AddressTaken station (k ++ (b ∷ c)) → special b ≡ false → length k < mostContent
     → ByRule station (length k) b Inside (Keep b)
 plain-kept Point k b c taken other room = plain onPoint other room
 plain-kept (Addressed own) [] b c taken other room =
@@ -39,7 +39,7 @@ plain-kept (Addressed own) [] b c taken other room =
 plain-kept (Addressed own) (a ∷ k) b c taken other room = plain afterFirst other room
 
 -- one that stuffing changes is not the address
-later : (station : Station) → hasAddress station ≡ true → (k : List ℕ) (b : ℕ) (c : List ℕ) → Taken station (k ++ (b ∷ c)) → special b ≡ true
+later : (station : Station) → hasAddress station ≡ true → (k : List ℕ) (b : ℕ) (c : List ℕ) → AddressTaken station (k ++ (b ∷ c)) → special b ≡ true
     → Later station (length k)
 later Point good k b c taken changed = onPoint
 later (Addressed own) good [] b c taken changed = absurd (true≢false (sym changed ∙ takes-plain own b good taken))
@@ -65,18 +65,18 @@ module _ (station : Station) (at : ℕ) (k rest : List ℕ) where
 -- ---- a content and its image
 
 module _ (station : Station) (good : hasAddress station ≡ true) where
-  byte-tells : (b : ℕ) (k c rest : List ℕ) (at : ℕ) → length k < mostContent → Taken station (k ++ (b ∷ c))
+  byte-tells : (b : ℕ) (k c rest : List ℕ) (at : ℕ) → length k < mostContent → AddressTaken station (k ++ (b ∷ c))
       → tell station (view Inside k) at (stuffed b ++ rest) ≡ tell station (view Inside (k ++ (b ∷ []))) (at + length (stuffed b)) rest
   byte-tells =
       by-stuffed
-      (λ (b : ℕ) (l : List ℕ). (k c rest : List ℕ) (at : ℕ) → length k < mostContent → Taken station (k ++ (b ∷ c))
+      (λ (b : ℕ) (l : List ℕ). (k c rest : List ℕ) (at : ℕ) → length k < mostContent → AddressTaken station (k ++ (b ∷ c))
       → tell station (view Inside k) at (l ++ rest) ≡ tell station (view Inside (k ++ (b ∷ []))) (at + length l) rest)
       (λ k c rest at room taken. pair-tells station at k rest 0x02 (lit≤ tt) (later station good k 0xFD c taken refl) room)
       (λ k c rest at room taken. pair-tells station at k rest 0x01 (lit≤ tt) (later station good k 0xFE c taken refl) room)
       (λ k c rest at room taken. pair-tells station at k rest 0x00 (lit≤ tt) (later station good k 0xFF c taken refl) room)
       (λ b other k c rest at room taken. keep-tells station at k rest b (plain-kept station k b c taken other room))
 
-  stuffing-tells : (c k rest : List ℕ) (at : ℕ) → length k + length c ≤ mostContent → Taken station (k ++ c)
+  stuffing-tells : (c k rest : List ℕ) (at : ℕ) → length k + length c ≤ mostContent → AddressTaken station (k ++ c)
       → tell station (view Inside k) at (stuffing c ++ rest) ≡ tell station (view Inside (k ++ c)) (at + length (stuffing c)) rest
   unfolding stuffing
   stuffing-tells [] k rest at fits taken =
@@ -98,7 +98,7 @@ module _ (station : Station) (good : hasAddress station ≡ true) where
   unfolding tell next turn within inside
   stop-tells c rest at = refl
 
-  pub image-tells : (v : View) (c rest : List ℕ) (at : ℕ) → length c ≤ mostContent → Taken station c
+  pub image-tells : (v : View) (c rest : List ℕ) (at : ℕ) → length c ≤ mostContent → AddressTaken station c
       → tell station v at (image c ++ rest)
       ≡ noted station (view Inside c) (at + length (image c)) Stop ++ tell station nowhere (at + length (image c)) rest
   unfolding image

@@ -23,7 +23,7 @@ use Rattle.link_spec.specs.declared.receiver.Phase.{Phase}
 use Rattle.link_spec.specs.declared.receiver.Phase.the-variants.{Outside, Inside, Pending}
 use Rattle.link_spec.specs.declared.receiver.Turn.{Turn}
 use Rattle.link_spec.specs.Limits.{leastContent}
-use Rattle.link_spec.specs.Station.{checkOn, checked, hasAddress, Taken}
+use Rattle.link_spec.specs.Station.{checkOn, checked, hasAddress, AddressTaken}
 use Rattle.link_spec.specs.Events.{Name, FRAME, LONG, PAIR, ADDR, named, happened, verdict}
 use Rattle.link_spec.specs.Rules.{Address, first, Later, onPoint, afterFirst, ByRule, ignored, begins, stops, address, noAddress, waits, plain, pair, noPair, longPlain, longPair}
 use Rattle.link_spec.specs.Receiving.{outcome}
@@ -46,7 +46,7 @@ pub record Ends (station : Station) (heard : List ℕ) (kept bytes : List ℕ) :
   pub before : List ℕ
   pub split : heard ≡ before ++ bytes
   pub most : length kept ≤ mostContent
-  pub taken : Taken station kept
+  pub taken : AddressTaken station kept
 
 abbrev pub Trace : Station → List ℕ → Phase → List ℕ → Type 0
 Trace station heard Outside kept = Unit {0}
@@ -55,7 +55,7 @@ Trace station heard Pending kept = Ends station heard kept (wire kept ++ (0xFF �
 
 -- one byte more
 ends-more : {station : Station} {heard k bytes : List ℕ} (l more : List ℕ) (b : ℕ)
-    → Ends station heard k bytes → bytes ++ (b ∷ []) ≡ more → length l ≤ mostContent → Taken station l
+    → Ends station heard k bytes → bytes ++ (b ∷ []) ≡ more → length l ≤ mostContent → AddressTaken station l
     → Ends station (heard ++ (b ∷ [])) l more
 ends-more {bytes} l more b e w m t =
     record {
@@ -65,7 +65,7 @@ ends-more {bytes} l more b e w m t =
       taken = t;
     }
 
-taken-none : (station : Station) → Taken station []
+taken-none : (station : Station) → AddressTaken station []
 taken-none Point = tt
 taken-none (Addressed own) = tt
 
@@ -74,10 +74,10 @@ address-plain : {station : Station} {count b : ℕ} → hasAddress station ≡ t
 address-plain {b} good (first {own} f g t) = takes-plain own b good t
 
 -- a content begins with an address that is taken, and goes on with it
-taken-first : {station : Station} (k : List ℕ) (b : ℕ) → Address station (length k) b true → Taken station (k ++ (b ∷ []))
+taken-first : {station : Station} (k : List ℕ) (b : ℕ) → Address station (length k) b true → AddressTaken station (k ++ (b ∷ []))
 taken-first [] b (first f g t) = t
 
-taken-later : {station : Station} (k : List ℕ) (b : ℕ) → Taken station k → Later station (length k) → Taken station (k ++ (b ∷ []))
+taken-later : {station : Station} (k : List ℕ) (b : ℕ) → AddressTaken station k → Later station (length k) → AddressTaken station (k ++ (b ∷ []))
 taken-later [] b taken onPoint = tt
 taken-later (a ∷ k) b taken onPoint = tt
 taken-later (a ∷ k) b taken afterFirst = taken
@@ -89,7 +89,7 @@ wire-more k b =
 
 module _ (station : Station) (good : hasAddress station ≡ true) (heard : List ℕ) where
   -- a byte that stands for itself
-  trace-plain : (k : List ℕ) (b : ℕ) → special b ≡ false → length k < mostContent → Taken station (k ++ (b ∷ [])) → Ends station heard k (wire k)
+  trace-plain : (k : List ℕ) (b : ℕ) → special b ≡ false → length k < mostContent → AddressTaken station (k ++ (b ∷ [])) → Ends station heard k (wire k)
       → let l = k ++ (b ∷ []) in
       Ends station (heard ++ (b ∷ [])) l (wire l)
   trace-plain k b other room taken e =

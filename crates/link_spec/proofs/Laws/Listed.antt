@@ -22,7 +22,7 @@ use Rattle.link_spec.specs.declared.station.Station.the-variants.{Point,
 use Rattle.link_spec.specs.declared.receiver.Receiver.{Receiver}
 use Rattle.link_spec.specs.Limits.{leastContent, mostData}
 use Rattle.link_spec.specs.Address.{isNever, takes}
-use Rattle.link_spec.specs.Station.{checked, hasAddress, Taken}
+use Rattle.link_spec.specs.Station.{checked, hasAddress, AddressTaken}
 use Rattle.link_spec.specs.Frame.{pointContent, addressedContent}
 use Rattle.link_spec.specs.Writers.{writtenUnless, pointWritten, addressedWritten, WriterTable, tooLong, badAddress, noRoom, frame}
 use Rattle.link_spec.specs.Events.{FRAME}
@@ -60,7 +60,7 @@ wrote never «data» content out r says none =
 -- the image of a content with its check, put anywhere into any stream, is listed there
 image-listed : (station : Station) (front «data» before rest : List ℕ) → length (checked station front) ≡ leastContent + length «data»
     → length «data» ≤ mostData
-    → Taken station (checked station front)
+    → AddressTaken station (checked station front)
     → {s : Receiver} {all : List Told}
     → IsFresh station s
     → let bytes = image (checked station front) in
@@ -132,7 +132,7 @@ addressed-listed r own address identifier command «data» out out′ before res
 
 -- a content of 4 to 64 bytes has all that its line's frames have, and the writer writes it
 fields : (station : Station) → hasAddress station ≡ true → (front : List ℕ) → leastContent ≤ length (checked station front)
-    → length (checked station front) ≤ mostContent → Taken station (checked station front)
+    → length (checked station front) ≤ mostContent → AddressTaken station (checked station front)
     → Fields station front (checked station front)
 unfolding withCheck pointContent addressedContent
 fields Point good [] least most taken = absurd (omega (arith, length-withCheck Fcs []))

@@ -12,7 +12,7 @@ use borrow.Author.Tests.{eqb-true, eq-eqb, ne-eqb}
 use Rattle.ground.proofs.Laws.Choice.{between-true, between-is}
 use Rattle.request_spec.specs.declared.parameter.Parameter.{Parameter}
 use Rattle.request_spec.specs.declared.parameter.Parameter.the-variants.{Speed, Settings, Cell}
-use Rattle.request_spec.specs.Parameters.{parameterCode, lengthOf, within, isValueOf, IsValue, ofSpeed, ofSettings, ofCell}
+use Rattle.request_spec.specs.Parameters.{parameterCode, lengthOf, inRange, isValueOf, IsValue, ofSpeed, ofSettings, ofCell}
 
 -- a value has 1 to 8 bytes
 pub lengthOf-least : (p : Parameter) → 0 < lengthOf p
@@ -29,11 +29,11 @@ lengthOf-most Cell = omega arith
 pub value-sizes : (p : Parameter) (value : List ℕ) → isValueOf p value ≡ true → length value ≡ lengthOf p
 unfolding isValueOf
 value-sizes p value taken =
-    eqb-true (length value) (lengthOf p) (and-eq-true-iff (eqb (length value) (lengthOf p)) (within p value) .0 taken .0)
+    eqb-true (length value) (lengthOf p) (and-eq-true-iff (eqb (length value) (lengthOf p)) (inRange p value) .0 taken .0)
 
-pub value-within : (p : Parameter) (value : List ℕ) → isValueOf p value ≡ true → within p value ≡ true
+pub value-within : (p : Parameter) (value : List ℕ) → isValueOf p value ≡ true → inRange p value ≡ true
 unfolding isValueOf
-value-within p value taken = and-eq-true-iff (eqb (length value) (lengthOf p)) (within p value) .0 taken .1
+value-within p value taken = and-eq-true-iff (eqb (length value) (lengthOf p)) (inRange p value) .0 taken .1
 
 pub value-length : {p q : Parameter} (value : List ℕ) → p ≡ q → isValueOf p value ≡ true → length value ≡ lengthOf q
 value-length {p} value same taken = value-sizes p value taken ∙ ap lengthOf same
@@ -43,17 +43,17 @@ pub value-other : {n : ℕ} (p : Parameter) (value : List ℕ) → n ≡ lengthO
 unfolding isValueOf
 value-other p value long other = rw (ne-eqb (length value) (lengthOf p) (λ e. other (e ∙ sym long)))
 
-pub value-sized : {n : ℕ} {p q : Parameter} (value : List ℕ) → p ≡ q → n ≡ lengthOf p → length value ≡ n → within q value ≡ isValueOf p value
+pub value-sized : {n : ℕ} {p q : Parameter} (value : List ℕ) → p ≡ q → n ≡ lengthOf p → length value ≡ n → inRange q value ≡ isValueOf p value
 unfolding isValueOf
 value-sized {p} value same long whole =
-    ap (λ (r : Parameter). within r value) (sym same) ∙ rw (eq-eqb (length value) (lengthOf p) (whole ∙ long))
+    ap (λ (r : Parameter). inRange r value) (sym same) ∙ rw (eq-eqb (length value) (lengthOf p) (whole ∙ long))
 
 -- a value is one by the table
 pub value-is : (p : Parameter) (value : List ℕ) → (isValueOf p value ≡ true) ↔ IsValue p value
 unfolding isValueOf
 value-is p value = (λ taken. of p value (value-sizes p value taken) (value-within p value taken), back)
   where
-    of : (q : Parameter) (v : List ℕ) → length v ≡ lengthOf q → within q v ≡ true → IsValue q v
+    of : (q : Parameter) (v : List ℕ) → length v ≡ lengthOf q → inRange q v ≡ true → IsValue q v
     of Speed [] long fits = absurd (omega arith)
     of Speed (v ∷ []) long fits = let (least, most) = between-true 3 10 v fits in ofSpeed least most
     of Speed (v ∷ w ∷ more) long fits = absurd (omega arith)
