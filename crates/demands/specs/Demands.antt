@@ -98,8 +98,8 @@ pub record Demand2 : Type 0 where
       → commandOf (again .input .content) ≡ commandOf (first .input .content)
       → Repeated first again
 
--- 3. From a fresh receiver of either line kind and one stream, handed over in calls cut at will, the frames handed out are exactly those whose
--- whole wire image stands in the stream; and so of a tape, handed over in chunks cut at will.
+-- 3. From a fresh receiver and one stream, cut into calls at will, the frames handed out are exactly those of at most 64 content bytes, with an
+-- address that the station takes, whose whole wire image stands in it: each once, in order, at its stop byte. And so of a tape, cut at will.
 pub record Demand3 : Type 0 where
   pub lists : {station : Station} {s : Receiver} {stream : List ℕ} {all : List Told} → IsFresh station s → Hearing stream s 0 all → Lists station stream all
   -- the cuts do not matter to any event, and any cut goes on
