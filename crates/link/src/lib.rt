@@ -1,9 +1,10 @@
-// The frames of the two serial lines of ProX card readers: their writers, and the receiver of both.
+// The two serial lines of ProX card readers: their stations, the receiver of either, and, handed on, the writers of their frames.
 mod receiver;
 mod rules;
 mod station;
-mod writer;
 
+pub use frame::write_addressed;
+pub use frame::write_point;
 pub use link_spec::BROADCAST;
 pub use link_spec::Event;
 pub use link_spec::Fresh;
@@ -19,5 +20,3 @@ pub use receiver::fresh_addressed;
 pub use receiver::fresh_point;
 pub use receiver::is_bad_state;
 pub use receiver::receive;
-pub use writer::write_addressed;
-pub use writer::write_point;

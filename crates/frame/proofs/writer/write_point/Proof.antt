@@ -7,8 +7,8 @@ use Rattle.checks.specs.declared.kind.Check.the-variants.{Fcs}
 use Rattle.link_spec.specs.Frame.{pointContent}
 use Rattle.link_spec.specs.Writers.{pointWritten}
 use Rattle.link_spec.proofs.Laws.Writers.{frame-written}
-use Rattle.link.proofs.writer.write_point.Statement.{statement}
-use Rattle.link.proofs.writer.write_point.Tie as tie
+use Rattle.frame.proofs.writer.write_point.Statement.{statement}
+use Rattle.frame.proofs.writer.write_point.Tie as tie
 
 slice-aggregate-write-frame : tie.Need-slice-aggregate-write-frame
 slice-aggregate-write-frame c = search needs

@@ -13,8 +13,8 @@ use Rattle.link_spec.specs.Limits.{mostData}
 use Rattle.link_spec.specs.Frame.{addressedContent}
 use Rattle.link_spec.specs.Writers.{addressedWritten}
 use Rattle.link_spec.proofs.Laws.Writers.{refuses-length, refuses-address, frame-written}
-use Rattle.link.proofs.writer.write_addressed.Statement.{statement}
-use Rattle.link.proofs.writer.write_addressed.Tie as tie
+use Rattle.frame.proofs.writer.write_addressed.Statement.{statement}
+use Rattle.frame.proofs.writer.write_addressed.Tie as tie
 
 slice-aggregate-write-frame : tie.Need-slice-aggregate-write-frame
 slice-aggregate-write-frame c = search needs
