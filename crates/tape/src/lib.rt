@@ -1,16 +1,13 @@
 // A tape's bytes in, the listing's text out: header row, a row for each event chunk by chunk, last row.
 mod chunk;
-mod ends;
 mod kind;
 mod receivers;
-mod rows;
 mod run;
 mod state;
-mod word;
 
 pub use chunk::list;
-pub use ends::write_header;
-pub use ends::write_last;
+pub use rows::write_header;
+pub use rows::write_last;
 pub use state::fresh_tape;
 pub use state::is_over;
 pub use tape_spec::LEAST_ROOM;

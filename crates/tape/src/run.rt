@@ -1,9 +1,9 @@
 // Records in a row on one line, heard together.
 use crate::kind::kind_of;
-use crate::rows::put_heard;
 use ground::room;
 use link::Receiver;
 use link::receive;
+use rows::put_heard;
 use tape_spec::LEAST_ROOM;
 use tape_spec::Line;
 use tape_spec::MOST_RECORDS;

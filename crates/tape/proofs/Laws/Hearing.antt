@@ -9,8 +9,8 @@ use native.Mathlib.Omega.{arith}
 use lib.ListN.{length, drop, length-drop, drop-of-length-le}
 use lib.Seq.{drop-drop}
 use Rattle.ground.specs.declared.laying.Placed.{Placed}
-use Rattle.ground.specs.Laying.{laid, Ended, ended, placed}
-use Rattle.ground.proofs.Laws.Laying.{length-laid, placed-nil, placed-more}
+use Rattle.ground.specs.Laying.{laid, Ended, ended, placed, put}
+use Rattle.ground.proofs.Laws.Laying.{length-laid, put-placed, placed-nil, placed-more}
 use Rattle.link_spec.specs.declared.receiver.Receiver.{Receiver}
 use Rattle.link_spec.specs.Receiving.{Said, badReceiver, received}
 use Rattle.link_spec.proofs.Laws.Receiving.{received-takes, stays-good}
@@ -92,9 +92,10 @@ module _ (line : Line) (records : ℕ) (bodies : List ℕ) (all : Left) where
           ∙ ap (λ (v : Run). leavingAfter count v out end)
           (sym (running-piece line left (length out - end) (records + count) s (goes .good) fits))
 
-      pub next-call : (r : Placed) (o : List ℕ) → ended r o ≡ placed text out end
+      pub next-call : (r : Placed) (o : List ℕ) → ended r o ≡ put text out end
           → Goes o (said .receiver) (count + said .taken) (r .end)
-      next-call r o puts =
+      next-call r o says =
+          let puts = says ∙ put-placed text out end text-fits in
           let size : length (laid out end text) ≡ length out = length-laid out end text (omega (arith, text-fits, goes .ends)) in
           let room : length (laid out end text) - (end + length text) ≡ length out - end - length text = omega arith in
           let far : records + (count + said .taken) ≡ records + count + said .taken = omega arith in

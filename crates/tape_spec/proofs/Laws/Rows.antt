@@ -19,7 +19,7 @@ use Rattle.tape_spec.specs.declared.tape.Line.the-variants.{Point, Addre
 use Rattle.tape_spec.specs.Limits.{mostRecords, leastRoom, mostLast}
 use Rattle.tape_spec.specs.Rows.{headerRow, letter, row, eventRow, carried, heardRow, word, lastRow, nameOf}
 
-length-letter : (line : Line) → length (letter line) ≡ 3
+pub length-letter : (line : Line) → length (letter line) ≡ 3
 unfolding letter ascii
 length-letter Point = refl
 length-letter Addressed = refl

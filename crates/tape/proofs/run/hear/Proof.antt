@@ -6,11 +6,9 @@ use native.Mathlib.Nat.{add-zero}
 use native.Mathlib.Omega.{arith}
 use borrow.Author.Tests.{leb-true, leb-false}
 use lib.ListN.{length, drop}
-use Rattle.ground.specs.Laying.{placed}
+use Rattle.ground.specs.Laying.{put}
 use Rattle.ground.proofs.Laws.Lists.{take-rest}
-use Rattle.wire_spec.specs.Limits.{mostContent}
 use Rattle.link_spec.specs.Receiving.{Said, saying, received}
-use Rattle.link_spec.proofs.Laws.Receiving.{length-within}
 use Rattle.tape_spec.specs.Limits.{leastRoom, mostRecords}
 use Rattle.tape_spec.specs.Rows.{heardRow}
 use Rattle.tape.specs.Running.{runLeft, running}
@@ -72,17 +70,15 @@ says c =
     let l = turn c .loop in
     c .before .before .receive .ensures ∙ ap (received (l .receiver)) (take-rest (entry c .args .bodies .now) (l .count))
 
--- what it took and what it carries, and how many records there may be
+-- what it took, and how many records there may be
 takes : (c : tie.After-struct-known Inv-loop μ-loop)
     → let l = turn c .loop in let a = entry c .args in let r = c .before .before .receive .result in
-    (0 < r .taken) × (l .count + r .taken ≤ length (a .bodies .now)) × (r .length ≤ mostContent)
-    × (a .records + length (a .bodies .now) ≤ mostRecords)
+    (0 < r .taken) × (l .count + r .taken ≤ length (a .bodies .now)) × (a .records + length (a .bodies .now) ≤ mostRecords)
 takes c =
     let l = turn c .loop in
     let n = ap (λ (said : Said). said .taken) (says c) in (
       omega (arith, n, takes-some _ _ _ _ (l .inv .0) (c .before .before .before .before .before .before .before .loop-test .taken)),
       omega (arith, n, takes-most _ _ _ _ (l .inv .0)),
-      omega (arith, ap (λ (said : Said). said .length) (says c), length-within (l .receiver) (drop (l .count) (entry c .args .bodies .now))),
       omega (arith, entry c .pre),
     )
 
@@ -105,7 +101,7 @@ add-put-heard : tie.Need-add-put-heard Inv-loop μ-loop
 add-put-heard c = omega (arith, takes c)
 
 put-heard-requires : tie.Need-put-heard-requires Inv-loop μ-loop
-put-heard-requires c κs = (takes (c .before) .2, fits (c .before))
+put-heard-requires c κs = tt
 
 loop-less : tie.Need-loop-less Inv-loop μ-loop
 loop-less c = omega (arith, takes (c .before .before .before .before))
@@ -121,11 +117,11 @@ loop-again c =
     let number : a .records + (l .count + r .taken - 1) ≡ a .records + l .count + (said .taken - 1) =
     omega (arith, takes d, ap (λ (s : Said). s .taken) (says d)) in
     let puts = p .ensures
-    ∙ ap₂ (λ (n : ℕ) (s : Said). placed (heardRow n (a .line) s) (l .out) (l .end)) number (says d) in (
+    ∙ ap₂ (λ (n : ℕ) (s : Said). put (heardRow n (a .line) s) (l .out) (l .end)) number (says d) in (
       subst⁻¹ (λ (s : Said). Goes (a .line) (a .records) (a .bodies .now)
           (runLeft (running (length (a .out .now) - a .at) (a .line) (a .records) (a .receiver) (a .bodies .now)) (a .out .now) (a .at))
           (p .last .1 .1 .1 .0) (s .receiver) (l .count + s .taken) (p .result .end)) (says d)
-          (next-call _ _ _ _ (l .inv .0) (takes d .3) (fits d) (p .result) (p .last .1 .1 .1 .0) puts),
+          (next-call _ _ _ _ (l .inv .0) (takes d .2) (fits d) (p .result) (p .last .1 .1 .1 .0) puts),
       omega (arith, p .kept, l .inv .1),
     )
 

@@ -3,8 +3,8 @@
 use borrow.Author.Needs.{needs}
 use Rattle.text.specs.Ascii.{ascii}
 use Rattle.tape_spec.specs.Rows.{headerRow}
-use Rattle.tape.proofs.ends.write_header.Statement.{statement}
-use Rattle.tape.proofs.ends.write_header.Tie as tie
+use Rattle.rows.proofs.ends.write_header.Statement.{statement}
+use Rattle.rows.proofs.ends.write_header.Tie as tie
 
 slice-aggregate-put : tie.Need-slice-aggregate-put
 slice-aggregate-put c = search needs

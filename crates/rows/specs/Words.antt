@@ -3,7 +3,7 @@ use Prim.Native.Nat.{ℕ, _≤_}
 use mathlib.Core.Path.{_≡_}
 use mathlib.Core.List.{List}
 use lib.ListN.{length, take}
-use Rattle.tape.specs.declared.word.Word.{Word}
+use Rattle.rows.specs.declared.word.Word.{Word}
 
 -- the first places of a word are this text
 pub record Spells (word : Word) (text : List ℕ) : Type 0 where

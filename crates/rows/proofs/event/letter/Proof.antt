@@ -3,8 +3,8 @@
 use borrow.Author.Needs.{needs}
 use Rattle.text.specs.Ascii.{ascii}
 use Rattle.tape_spec.specs.Rows.{letter}
-use Rattle.tape.proofs.rows.letter.Statement.{statement}
-use Rattle.tape.proofs.rows.letter.Tie as tie
+use Rattle.rows.proofs.event.letter.Statement.{statement}
+use Rattle.rows.proofs.event.letter.Tie as tie
 
 enum-told : tie.Need-enum-told
 enum-told c = search needs

@@ -5,8 +5,8 @@ use borrow.Author.Needs.{needs}
 use Rattle.ground.specs.Laying.{put}
 use Rattle.tape_spec.specs.declared.tape.Ending.{Ending}
 use Rattle.tape_spec.specs.Rows.{lastRow}
-use Rattle.tape.proofs.ends.write_last.Statement.{statement}
-use Rattle.tape.proofs.ends.write_last.Tie as tie
+use Rattle.rows.proofs.ends.write_last.Statement.{statement}
+use Rattle.rows.proofs.ends.write_last.Tie as tie
 
 ending-requires : tie.Need-ending-requires
 ending-requires c κs = search needs

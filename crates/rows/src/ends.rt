@@ -10,7 +10,7 @@ ghost use mathlib.Core.Path.{_≡_};
 ghost use Rattle.ground.specs.Laying.{ended, put as putOf};
 ghost use Rattle.tape_spec.specs.Rows.{headerRow, word as wordOf, lastRow};
 ghost use Rattle.tape_spec.specs.Taping.{ending as endingOf, lastRowOf};
-ghost use Rattle.tape.specs.Words.{Spells};
+ghost use Rattle.rows.specs.Words.{Spells};
 
 // Places for the longest last row: a word of 4 letters, a blank, 10 digits and the row's end.
 const MOST_LAST: usize = 16;

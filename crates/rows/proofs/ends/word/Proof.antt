@@ -4,8 +4,8 @@ use native.Mathlib.Omega.{arith}
 use borrow.Author.Needs.{needs}
 use Rattle.text.specs.Ascii.{ascii}
 use Rattle.tape_spec.specs.Rows.{word}
-use Rattle.tape.proofs.ends.word.Statement.{statement}
-use Rattle.tape.proofs.ends.word.Tie as tie
+use Rattle.rows.proofs.ends.word.Statement.{statement}
+use Rattle.rows.proofs.ends.word.Tie as tie
 
 enum-told : tie.Need-enum-told
 enum-told c = search needs

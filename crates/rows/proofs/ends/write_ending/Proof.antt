@@ -14,8 +14,8 @@ use Rattle.text.specs.Decimal.{decimal}
 use Rattle.tape_spec.specs.Limits.{mostLast}
 use Rattle.tape_spec.specs.Rows.{word, lastRow}
 use Rattle.tape_spec.proofs.Laws.Rows.{last-within}
-use Rattle.tape.proofs.ends.write_ending.Statement.{statement}
-use Rattle.tape.proofs.ends.write_ending.Tie as tie
+use Rattle.rows.proofs.ends.write_ending.Statement.{statement}
+use Rattle.rows.proofs.ends.write_ending.Tie as tie
 
 word-requires : tie.Need-word-requires
 word-requires c κs = search needs
