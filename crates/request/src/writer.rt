@@ -1,8 +1,8 @@
 // The writer of typed requests.
 use crate::command::accept;
+use frame::write_point;
 use ground::Counted;
 use ground::Refusal;
-use link::write_point;
 use request_spec::Acceptance;
 ghost use mathlib.Core.Path.{_≡_};
 ghost use Rattle.wire_spec.specs.Writing.{after};

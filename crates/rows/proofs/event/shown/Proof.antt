@@ -12,9 +12,9 @@ returns c = record { within = omega arith; same = λ l whole. refl }
 
 returns-2 : tie.Need-returns-2
 returns-2 c = record {
-      within = omega arith;
-      same = λ l whole. take-all mostContent l (omega arith) ∙ sym (take-all (c .before .args .length) l (omega arith));
-    }
+  within = omega arith;
+  same = λ l whole. take-all mostContent l (omega arith) ∙ sym (take-all (c .before .args .length) l (omega arith));
+}
 
 pub shown-spec : {M : Type 1} → statement M
 shown-spec = tie.close (tie.spec returns returns-2)
