@@ -5,7 +5,6 @@ use crate::receivers::with_receiver;
 use crate::run::run;
 use crate::state::is_bad;
 use ground::Refusal;
-use ground::room;
 use tape_spec::LEAST_ROOM;
 use tape_spec::Listed;
 use tape_spec::Next;
@@ -49,7 +48,7 @@ fn go(tape: Tape, chunk: &[u8], out: &mut [u8]) -> Listed
     let mut piece = [0u8; MOST_RUN];
     let mut taken: usize = 0;
     let mut written: usize = 0;
-    while taken < chunk.len() && room(out, written) >= LEAST_ROOM {
+    while taken < chunk.len() && out.len() - written >= LEAST_ROOM {
         match next {
             Next::Kind => {
                 next = after_kind(records, chunk[taken]);

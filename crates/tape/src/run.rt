@@ -1,6 +1,5 @@
 // Records in a row on one line, heard together.
 use crate::kind::kind_of;
-use ground::room;
 use link::Receiver;
 use link::receive;
 use rows::put_heard;
@@ -89,7 +88,7 @@ fn hear(
     let mut receiver = receiver;
     let mut count: usize = 0;
     let mut end = at;
-    while count < bodies.len() && room(out, end) >= LEAST_ROOM {
+    while count < bodies.len() && out.len() - end >= LEAST_ROOM {
         let heard = receive(receiver, &bodies[count..]);
         receiver = heard.receiver;
         count += heard.taken;

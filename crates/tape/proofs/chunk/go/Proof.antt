@@ -37,8 +37,8 @@ abbrev μ-loop : tie.MeasureT-loop
     length chunk - taken
 
 -- there is room for the longest row
-roomy : (c : tie.Then1 Inv-loop μ-loop) → let l = c .before .before .before .before .loop in leastRoom ≤ length (l .out) - l .written
-roomy c = omega (arith, leb-true leastRoom (c .before .room .result) (c .if1 .taken), c .before .room .ensures)
+roomy : (c : tie.Then1 Inv-loop μ-loop) → let l = c .before .before .loop in leastRoom ≤ length (l .out) - l .written
+roomy c = leb-true _ _ (c .if1 .taken)
 
 loop-holds : tie.Need-loop-holds Inv-loop μ-loop
 loop-holds c =
@@ -54,8 +54,8 @@ loop-holds c =
       refl,
     )
 
-room-requires : tie.Need-room-requires Inv-loop μ-loop
-room-requires c κs = search needs
+sub-if1 : tie.Need-sub-if1 Inv-loop μ-loop
+sub-if1 c = c .before .loop .inv .0 .ends
 
 enum-told : tie.Need-enum-told Inv-loop μ-loop
 enum-told c = search needs
@@ -75,8 +75,8 @@ loop-less c = omega arith
 loop-again : tie.Need-loop-again Inv-loop μ-loop
 loop-again c =
     let test = c .before .before .before .before in
-    let l = test .before .before .before .before .loop in
-    let a = test .before .before .before .before .before .before .before .before .args in
+    let l = test .before .before .loop in
+    let a = test .before .before .before .before .before .before .args in
     let goes : Next → ℕ → Type 0 = λ x n. Goes (a .chunk .now) (asked (a .chunk .now) (a .tape) (a .out .now)) (l .out)
     (tapeOf (l .records) x (l .receivers)) n (l .written) in (
       subst⁻¹ (λ (x : Next). goes x (l .taken + 1)) (c .after-kind .ensures)
@@ -103,7 +103,7 @@ part-rest-end c = omega arith
 
 -- the turn of the loop, and the call's entry
 abbrev turn : tie.After-receiver-on Inv-loop μ-loop → tie.At-loop Inv-loop μ-loop
-turn o = o .before .before .before .before .before .before .before .before
+turn o = o .before .before .before .before .before .before
 
 abbrev entry : tie.After-receiver-on Inv-loop μ-loop → tie.Start Inv-loop μ-loop
 entry o = turn o .before .before .before .before
@@ -207,8 +207,8 @@ loop-again-2 c =
     let q = r .run .result in (
       subst⁻¹ (λ (x : Receivers). Goes (whole o) (all o) (r .run .last .1 .1 .1 .1 .1 .0) (tapeOf (l .records + q .count) Kind x)
           (l .taken + (2 * q .count - 1)) (q .end)) (c .before .before .with-receiver .ensures) (kind-next r),
-      omega (arith, r .run .kept, l .inv .1),
-      omega (arith, r .run .kept, l .inv .2),
+      r .run .kept .1 .1 .1 .1 .1 .0 ∙ l .inv .1,
+      r .run .kept .1 .1 .1 .1 .0 ∙ l .inv .2,
     )
 
 enum-told-2 : tie.Need-enum-told-2 Inv-loop μ-loop
@@ -221,7 +221,7 @@ stopped-requires : tie.Need-stopped-requires Inv-loop μ-loop
 stopped-requires c κs = tt
 
 same-length : tie.Need-same-length Inv-loop μ-loop
-same-length c = omega (arith, c .before .before .loop .inv .1)
+same-length c = c .before .before .loop .inv .1
 
 -- the four ways out of the loop
 returns : tie.Need-returns Inv-loop μ-loop
@@ -229,10 +229,10 @@ returns c =
     let l = c .before .before .loop in
     ap (over (l .out)) (c .stopped .ensures)
     ∙ ⊎-elim
-    (λ w. out-of-room _ _ (l .inv .0) (omega (arith, leb-false leastRoom (w .2 .result) (w .3 .left), w .2 .ensures)))
+    (λ w. out-of-room _ _ (l .inv .0) (leb-false _ _ (w .1 .left)))
     (⊎-elim
-    (λ w. at-end _ _ (l .inv .0) (omega (arith, w .left)))
-    (⊎-elim (λ w. at-last _ _ (l .inv .0) (ap isOver (w .5 .given .1))) (λ w. at-last _ _ (l .inv .0) (ap isOver (w .5 .given .1)))))
+    (λ w. at-end _ _ (l .inv .0) (w .left))
+    (⊎-elim (λ w. at-last _ _ (l .inv .0) (ap isOver (w .3 .given .1))) (λ w. at-last _ _ (l .inv .0) (ap isOver (w .3 .given .1)))))
     (c .before .loop-test .came)
 
 pub go-spec : {M : Type 1} → statement M
@@ -242,7 +242,7 @@ go-spec =
     Inv-loop
     μ-loop
     loop-holds
-    room-requires
+    sub-if1
     enum-told
     shared-slice-read-after-kind
     after-kind-requires

@@ -41,8 +41,8 @@ loop-holds c =
       refl,
     )
 
-room-requires : tie.Need-room-requires Inv-loop μ-loop
-room-requires c κs = omega arith
+sub-if1 : tie.Need-sub-if1 Inv-loop μ-loop
+sub-if1 c = c .before .loop .inv .0 .ends
 
 sub-receive : tie.Need-sub-receive Inv-loop μ-loop
 sub-receive c = omega arith
@@ -58,7 +58,7 @@ receive-requires c κs = tt
 
 -- the turn of the loop, and the call's entry
 abbrev turn : tie.After-struct-known Inv-loop μ-loop → tie.At-loop Inv-loop μ-loop
-turn c = c .before .before .before .before .before .before .before .before
+turn c = c .before .before .before .before .before .before
 
 abbrev entry : tie.After-struct-known Inv-loop μ-loop → tie.Start Inv-loop μ-loop
 entry c = turn c .before .before .before
@@ -77,16 +77,14 @@ takes : (c : tie.After-struct-known Inv-loop μ-loop)
 takes c =
     let l = turn c .loop in
     let n = ap (λ (said : Said). said .taken) (says c) in (
-      omega (arith, n, takes-some _ _ _ _ (l .inv .0) (c .before .before .before .before .before .before .before .loop-test .taken)),
+      omega (arith, n, takes-some _ _ _ _ (l .inv .0) (c .before .before .before .before .before .loop-test .taken)),
       omega (arith, n, takes-most _ _ _ _ (l .inv .0)),
       omega (arith, entry c .pre),
     )
 
 -- and there is room for the longest row
 fits : (c : tie.After-struct-known Inv-loop μ-loop) → leastRoom ≤ length (turn c .loop .out) - turn c .loop .end
-fits c =
-    let tested = c .before .before .before .before in
-    omega (arith, leb-true leastRoom (tested .before .room .result) (tested .if1 .taken), tested .before .room .ensures)
+fits c = leb-true _ _ (c .before .before .before .before .if1 .taken)
 
 add-count : tie.Need-add-count Inv-loop μ-loop
 add-count c = omega (arith, takes c)
@@ -122,7 +120,7 @@ loop-again c =
           (runLeft (running (length (a .out .now) - a .at) (a .line) (a .records) (a .receiver) (a .bodies .now)) (a .out .now) (a .at))
           (p .last .1 .1 .1 .0) (s .receiver) (l .count + s .taken) (p .result .end)) (says d)
           (next-call _ _ _ _ (l .inv .0) (takes d .2) (fits d) (p .result) (p .last .1 .1 .1 .0) puts),
-      omega (arith, p .kept, l .inv .1),
+      p .kept .1 .1 .1 .0 ∙ l .inv .1,
     )
 
 same-length : tie.Need-same-length Inv-loop μ-loop
@@ -130,8 +128,7 @@ same-length c = omega arith
 
 returns : tie.Need-returns Inv-loop μ-loop
 returns c =
-    out-of-room _ _ _ _ (c .before .before .before .before .loop .inv .0)
-    (omega (arith, leb-false leastRoom (c .before .room .result) (c .if1 .left), c .before .room .ensures))
+    out-of-room _ _ _ _ (c .before .before .loop .inv .0) (leb-false _ _ (c .if1 .left))
 
 same-length-2 : tie.Need-same-length-2 Inv-loop μ-loop
 same-length-2 c = omega arith
@@ -146,7 +143,7 @@ hear-spec =
     Inv-loop
     μ-loop
     loop-holds
-    room-requires
+    sub-if1
     sub-receive
     part-receive-start
     part-receive-end

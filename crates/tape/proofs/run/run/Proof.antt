@@ -37,7 +37,11 @@ slice-aggregate-hear : tie.Need-slice-aggregate-hear
 slice-aggregate-hear c = sym (length-take-le _ _ (c .before .before .before .gather .ensures .0))
 
 hear-requires : tie.Need-hear-requires
-hear-requires c κs = search needs
+hear-requires c κs =
+    let g = c .before .before .before .before in
+    let l = g .before .before .before in
+    let e = l .before .before .before .before in
+    (e .pre .0, (omega (arith, g .gather .ensures .1 .within, l .least .ensures .first, e .pre .1 .0), e .pre .1 .1 .1 .1))
 
 same-length : tie.Need-same-length
 same-length c = search needs
