@@ -1,4 +1,4 @@
--- What a reader of this library must believe: the check values. Read all beside document 01, 'Layout of a frame'.
+-- What must be believed of this library: the check values. Read all beside document 01, 'Layout of a frame'.
 pub mod Fcs
 pub mod Sum
 pub mod Check

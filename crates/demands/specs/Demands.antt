@@ -115,5 +115,5 @@ pub record Demand3 : Type 0 where
       (all : List Entry) × (text ≡ headerRow ++ (entryRows all ++ lastRow (p .ending) (length (p .records)))) × Shows (p .records) all
   pub tapeCuts : {bytes text : List ℕ} → Listing bytes text → text ≡ listing bytes
   pub tapeGoesOn : {t : Tape} → ReachedTape t → (chunk out last : List ℕ) (r : Listed) → leastRoom ≤ length out
-      → listedOut r last ≡ listed t chunk out → TakesChunk t chunk r
+      → listedOut r last ≡ listed t chunk out → TakesChunk t chunk out r
   pub tapeSome : (bytes : List ℕ) → (text : List ℕ) × Listing bytes text

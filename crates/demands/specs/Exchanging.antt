@@ -1,4 +1,5 @@
--- What is promised of both ends of the point line: a request that is written, heard, executed, answered, heard again and read.
+-- What is promised of one call of the point line's reader, and of its reply: a request that came is executed, or refused by a NACK; the reply
+-- is heard, and the master reads in it what it is.
 -- 01, The point reader and 'Master's side'. Assumes nothing.
 use mathlib.Core.Path.{_≡_}
 use mathlib.Core.Bool.{Bool, true, false}
@@ -54,7 +55,7 @@ module _ {alone : Bool} {h : History} {s : Reader} {held : List ℕ} (c : Call a
     pub state : stateOf (c .answer .reader) ≡ stateOf s
     pub kept : c .left .store ≡ c .lent .store
 
--- a reply sent in these bytes is heard, and read by the master, who asked so, as what it is
+-- a reply sent in these bytes is heard, and the master that made this request reads in it what it is
 pub record HeardAndRead (identifier code : ℕ) («data» before : List ℕ) (all : List Told) (bytes : List ℕ) (reply : Reply) : Type 0 where
   pub heard : List·Memᴰ (toldAt (length before + length bytes) FRAME (frontOf identifier code reply)) all
   pub reads : replyRead identifier code «data» (frontOf identifier code reply) ≡ hasRead reply

@@ -34,7 +34,10 @@ pub data ReachedTape : Tape → Type 0 where
   fresh : {t : Tape} → t ≡ freshTape → ReachedTape t
   after : {t : Tape} → ReachedTape t → (chunk out last : List ℕ) (r : Listed) → listedOut r last ≡ listed t chunk out → ReachedTape (r .tape)
 
--- a call with the least room is not refused, and takes at least one byte of a chunk that has any, until nothing further is read
-pub record TakesChunk (t : Tape) (chunk : List ℕ) (r : Listed) : Type 0 where
+-- a call with the least room is not refused, takes no byte after the chunk and writes none after the buffer, and takes at least one byte of a
+-- chunk that has any, until nothing further is read
+pub record TakesChunk (t : Tape) (chunk out : List ℕ) (r : Listed) : Type 0 where
   pub fine : number (r .refusal) ≡ 0
+  pub most : r .taken ≤ length chunk
+  pub within : r .written ≤ length out
   pub some : 0 < length chunk → isOver (t .next) ≡ false → 0 < r .taken

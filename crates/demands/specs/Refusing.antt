@@ -1,4 +1,4 @@
--- Demand 1 in two parts: each call refuses what the paper's table names, and only that; and a refused call changes and answers nothing.
+-- Demand 1 in two parts: each call refuses what the paper's table names, and only that; a refused call changes and answers nothing.
 -- 01, Refusal numbers. Assumes nothing.
 use mathlib.Core.Path.{_≡_}
 use mathlib.Core.Bool.{true, false}
@@ -27,8 +27,12 @@ use Rattle.tape_spec.specs.declared.tape.Tape.{Tape}
 use Rattle.tape_spec.specs.Limits.{leastRoom}
 use Rattle.tape_spec.specs.Taping.{badTape, notListed, going, textWritten, listed}
 
--- When, and only then: each answer is that of the table's row whose conditions hold. The rows of one table exclude each other, so where a row's
--- conditions hold the call has no other answer (`table-only` and its like).
+-- a table decides an answer: the answer is that of one of its rows whose conditions hold, and no row whose conditions hold gives another
+pub record Decides {A : Type 0} (Table : A → Type 0) (answer : A) : Type 0 where
+  pub row : Table answer
+  pub only : {other : A} → Table other → other ≡ answer
+
+-- When, and only then: each answer is decided by the rows of the paper's table.
 pub record RefusesByTable : Type 0 where
   pub puts : (bytes out : List ℕ) (at : ℕ) → (length out - at < length bytes → put bytes out at ≡ unplaced NoRoom out at)
       × (length bytes ≤ length out - at → put bytes out at ≡ placed bytes out at)
@@ -37,15 +41,18 @@ pub record RefusesByTable : Type 0 where
   pub frame : (check : Check) (head «data» out : List ℕ) → let n = length head + length «data» + checkLength check in
       (mostContent < n → frameWritten check head «data» out ≡ notWritten TooLong out)
       × (n ≤ mostContent → frameWritten check head «data» out ≡ imageWritten (withCheck check (head ++ «data»)) out)
-  pub point : (identifier command : ℕ) («data» out : List ℕ) → PointTable identifier command «data» out (pointWritten identifier command «data» out)
+  pub point : (identifier command : ℕ) («data» out : List ℕ)
+      → Decides (PointTable identifier command «data» out) (pointWritten identifier command «data» out)
   pub addressed : (address identifier command : ℕ) («data» out : List ℕ)
-      → AddressedTable address identifier command «data» out (addressedWritten address identifier command «data» out)
-  pub station : (own : ℕ) → NewTable own (freshMade own)
-  pub receiver : (s : Receiver) (piece : List ℕ) → ReceiverTable s piece (received s piece)
-  pub request : (identifier code : ℕ) («data» out : List ℕ) → RequestTable identifier code «data» out (requestWritten identifier code «data» out)
-  pub reader : (s : State) (i : Input) (lent : Buffers) → ReaderTable s i lent (answered s i lent)
-  pub power : (s : State) → PowerTable s (poweredOn s)
-  pub master : (identifier code : ℕ) («data» reply : List ℕ) → MasterTable identifier code «data» reply (replyRead identifier code «data» reply)
+      → Decides (AddressedTable address identifier command «data» out) (addressedWritten address identifier command «data» out)
+  pub station : (own : ℕ) → Decides (NewTable own) (freshMade own)
+  pub receiver : (s : Receiver) (piece : List ℕ) → Decides (ReceiverTable s piece) (received s piece)
+  pub request : (identifier code : ℕ) («data» out : List ℕ)
+      → Decides (RequestTable identifier code «data» out) (requestWritten identifier code «data» out)
+  pub reader : (s : State) (i : Input) (lent : Buffers) → Decides (ReaderTable s i lent) (answered s i lent)
+  pub power : (s : State) → Decides (PowerTable s) (poweredOn s)
+  pub master : (identifier code : ℕ) («data» reply : List ℕ)
+      → Decides (MasterTable identifier code «data» reply) (replyRead identifier code «data» reply)
   pub tape : (t : Tape) (chunk out : List ℕ) → (badTape t ≡ true → listed t chunk out ≡ notListed BadState t out)
       × (badTape t ≡ false → length out < leastRoom → listed t chunk out ≡ notListed NoRoom t out)
       × (badTape t ≡ false → leastRoom ≤ length out → listed t chunk out ≡ textWritten (going (length out) t chunk) out)

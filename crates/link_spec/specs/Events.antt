@@ -44,7 +44,7 @@ silent = telling None 0
 abbrev pub tooShort : List ℕ → Bool
 tooShort content = ltb (length content) leastContent
 
--- they are SHORT, otherwise a wrong check is CHECK, otherwise FRAME; the last two carry what stands before the check
+-- a content under 4 bytes is SHORT, otherwise a wrong check is CHECK, otherwise FRAME; the last two carry what stands before the check
 unfoldable pub verdict : kind.Check → List ℕ → Verdict
 verdict check content =
     cond (tooShort content) (telling Short 0)

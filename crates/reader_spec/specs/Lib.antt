@@ -1,4 +1,4 @@
--- What a reader of this library must believe: what a point reader answers, and what each call does.
+-- What must be believed of this library: what a point reader answers, and what each call does.
 -- Read Parameters, Asking, Replies and Sending beside document 01, 'The point reader'; Limits, State and Answering beside that and 'Refusal
 -- numbers'; Sessions and Promises as what demand 2 says of a reader over many calls; Examples beside 'Bench examples'.
 -- The contents of frames are those of `link_spec`, images those of `wire_spec`, commands and the data that they accept those of `request_spec`.

@@ -1,6 +1,7 @@
 -- A reader over many calls. What it has to remember and to answer is told from the calls' inputs, and from whether a call was refused; a
--- session hands the reader on from call to call, and nothing that is told looks into it. Demand 2, of repeats: a request that repeats the identifier and command of the last one executed
--- since power-on gets the stored reply and executes nothing. 01, The point reader. Assumes nothing.
+-- session hands the reader on from call to call, and no definition here looks into its record. Demand 2, of repeats: a request that repeats the
+-- identifier and command of the last one executed since power-on gets the stored reply and executes nothing. 01, The point reader.
+-- Assumes nothing.
 use Prim.Native.Nat.{ℕ}
 use mathlib.Core.Path.{_≡_}
 use mathlib.Core.Bool.{Bool, true, false, cond, _&&_, not}
@@ -165,7 +166,7 @@ abbrev pub StoreKept : Bool → History → List ℕ → List ℕ → Type 0
 StoreKept true h held store = take (remembers (h .last)) store ≡ take (remembers (h .last)) held
 StoreKept false h held store = Unit {0}
 
--- One call in a row of calls, of a reader after calls that tell this and left the store so. It may be given any event, content, header,
+-- One call of a session, on the reader and the store that the calls before it left, with this history. It may be given any event, content, header,
 -- antenna's answer, store and out. `alone` says that nobody else writes to the store.
 pub record Call (alone : Bool) (h : History) (s : Reader) (held : List ℕ) : Type 0 where
   pub input : Input

@@ -44,7 +44,7 @@ stateOf r = stateWith (r .parameters) (remembered (r .memory))
 abbrev pub freshState : State
 freshState = stateWith freshParameters none
 
--- step 3: identifier and command equal those of the last executed command; its stored reply is so long
+-- step 3: identifier and command equal those of the last executed command; its stored reply has this length
 abbrev pub find : Option Last → ℕ → ℕ → Repeat
 find none identifier command = New
 find (some last) identifier command =

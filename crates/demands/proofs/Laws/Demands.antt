@@ -8,10 +8,10 @@ use Rattle.wire_spec.proofs.Laws.Frame.{frame-within, frame-over, frame-keeps}
 use Rattle.link_spec.specs.declared.station.Station.the-variants.{Point, Addressed}
 use Rattle.link_spec.specs.Receiving.{freshReceiver}
 use Rattle.link_spec.proofs.Laws.Frame.{point-residue}
-use Rattle.link_spec.proofs.Laws.Writers.{point-by-table, addressed-by-table, point-keeps, addressed-keeps}
+use Rattle.link_spec.proofs.Laws.Writers.{point-by-table, point-only, addressed-by-table, addressed-only, point-keeps, addressed-keeps}
 use Rattle.link_spec.proofs.Laws.Receiving as receiving
 use Rattle.link_spec.proofs.Laws.Receiving.{received-keeps}
-use Rattle.link_spec.proofs.Laws.Fresh.{refuses-new, fresh-point, fresh-station}
+use Rattle.link_spec.proofs.Laws.Fresh.{refuses-new, new-only, fresh-point, fresh-station}
 use Rattle.link_spec.proofs.Laws.Hearing.{hearing-some}
 use Rattle.link_spec.proofs.Laws.Demand.{hearing-lists, cuts-free}
 use Rattle.link_spec.proofs.Laws.Listed.{point-listed, addressed-listed}
@@ -22,7 +22,7 @@ use Rattle.reader_spec.specs.State.{freshState}
 use Rattle.reader_spec.specs.Answering.{PoweredOn}
 use Rattle.reader_spec.proofs.Laws.State.{readerWith}
 use Rattle.reader_spec.proofs.Laws.Answering as answering
-use Rattle.reader_spec.proofs.Laws.Answering.{answered-keeps, power-by-table, powered-keeps, powers-on}
+use Rattle.reader_spec.proofs.Laws.Answering.{answered-keeps, power-by-table, power-only, powered-keeps, powers-on}
 use Rattle.reader_spec.proofs.Laws.Sessions.{session-good, session-sends, repeat-stored, fresh-session}
 use Rattle.reader_spec.proofs.Laws.Some.{call-some, call-fine}
 use Rattle.reader_spec.proofs.Laws.Repeats.{executed-repeats}
@@ -43,14 +43,23 @@ refuses-by-table =
       puts = λ bytes out at. (put-refused bytes out at, put-placed bytes out at);
       asksLength = λ content. (length-refused content, length-answered content);
       frame = λ check head «data» out. (frame-over check head «data» out, frame-within check head «data» out);
-      point = point-by-table;
-      addressed = addressed-by-table;
-      station = refuses-new;
-      receiver = receiving.by-table;
-      request = requesting.by-table;
-      reader = answering.by-table;
-      power = power-by-table;
-      master = reading.by-table;
+      point = λ identifier command «data» out. record { row = point-by-table identifier command «data» out; only = point-only identifier command «data» out };
+      addressed = λ address identifier command «data» out. record {
+        row = addressed-by-table address identifier command «data» out;
+        only = addressed-only address identifier command «data» out;
+      };
+      station = λ own. record { row = refuses-new own; only = new-only };
+      receiver = λ s piece. record { row = receiving.by-table s piece; only = receiving.table-only s piece };
+      request = λ identifier code «data» out. record {
+        row = requesting.by-table identifier code «data» out;
+        only = requesting.table-only identifier code «data» out;
+      };
+      reader = λ s i lent. record { row = answering.by-table s i lent; only = answering.table-only s i lent };
+      power = λ s. record { row = power-by-table s; only = power-only };
+      master = λ identifier code «data» reply. record {
+        row = reading.by-table identifier code «data» reply;
+        only = reading.table-only identifier code «data» reply;
+      };
       tape = λ t chunk out. (refuses-state t chunk out, refuses-room t chunk out, lists-chunk t chunk out);
     }
 

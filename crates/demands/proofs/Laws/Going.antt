@@ -15,9 +15,9 @@ use Rattle.link_spec.proofs.Laws.Receiving.{refused-only, received-prefix, rece
 use Rattle.link_spec.proofs.Laws.Fresh.{fresh-good}
 use Rattle.tape_spec.specs.declared.tape.Tape.{Tape}
 use Rattle.tape_spec.specs.declared.tape.Listed.{Listed}
-use Rattle.tape_spec.specs.Limits.{leastRoom}
+use Rattle.tape_spec.specs.Limits.{mostRecords, leastRoom}
 use Rattle.tape_spec.specs.Taping.{badTape, isOver, ListedOut, listedOut, listed}
-use Rattle.tape_spec.proofs.Laws.Taping.{lists-chunk, listed-some, fresh-fine, listed-fine}
+use Rattle.tape_spec.proofs.Laws.Taping.{lists-chunk, listed-within, listed-some, fresh-fine, listed-fine}
 use Rattle.demands.specs.Going as going
 use Rattle.demands.specs.Going.{ReachedReceiver, Takes, ReachedTape, TakesChunk}
 
@@ -49,13 +49,21 @@ reached-fine (going.fresh is) = ap badTape is ∙ fresh-fine
 reached-fine (going.after {t} was chunk out last r says) =
     ap (λ (d : ListedOut). badTape (d .tape)) says ∙ listed-fine t chunk out (reached-fine was)
 
+reached-few : {t : Tape} → ReachedTape t → t .records ≤ mostRecords
+reached-few (going.fresh is) = omega (arith, ap (λ (t : Tape). t .records) is)
+reached-few (going.after {t} was chunk out last r says) =
+    subst⁻¹ (λ (d : ListedOut). d .tape .records ≤ mostRecords) says (listed-within t chunk out (reached-few was) .records)
+
 pub tape-goes-on : {t : Tape} → ReachedTape t → (chunk out last : List ℕ) (r : Listed) → leastRoom ≤ length out
     → listedOut r last ≡ listed t chunk out
-    → TakesChunk t chunk r
+    → TakesChunk t chunk out r
 tape-goes-on {t = t} was chunk out last r roomy says =
     let fine = reached-fine was in
+    let within = listed-within t chunk out (reached-few was) in
     record {
       fine = ap (λ (d : ListedOut). d .refusal) says ∙ ap (λ (d : ListedOut). d .refusal) (lists-chunk t chunk out fine roomy);
+      most = subst⁻¹ (λ (d : ListedOut). d .taken ≤ length chunk) says (within .taken);
+      within = subst⁻¹ (λ (d : ListedOut). d .written ≤ length out) says (within .written);
       some = λ any more. of chunk any says more;
     }
   where
