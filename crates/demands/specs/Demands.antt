@@ -48,7 +48,7 @@ use Rattle.tape_spec.specs.Taping.{listedOut, listed}
 use Rattle.tape_spec.specs.Sessions.{Listing}
 use Rattle.demands.specs.Refusing.{RefusesByTable, RefusedChangesNothing}
 use Rattle.demands.specs.Exchanging.{WellAnswered}
-use Rattle.demands.specs.Going.{ReachedReceiver, Takes, ReachedTape, TakesChunk}
+use Rattle.demands.specs.Going.{ReachedReceiver, TakesPiece, ReachedTape, TakesChunk}
 
 -- 1. Bad input gets a numbered refusal; a refused call changes no state and no byte of a lent buffer. (That every call ends and takes every input
 -- it can be given is what it is to be proved with no `requires`.)
@@ -105,7 +105,7 @@ pub record Demand3 : Type 0 where
   -- the cuts do not matter to any event, and any cut goes on
   pub cuts : {station : Station} {s r : Receiver} {stream : List ℕ} {all others : List Told} → IsFresh station s → Hearing stream s 0 all
       → IsFresh station r → Hearing stream r 0 others → all ≡ others
-  pub goesOn : {station : Station} {s : Receiver} → ReachedReceiver station s → (piece : List ℕ) (r : Heard) → saying r ≡ received s piece → Takes s piece r
+  pub goesOn : {station : Station} {s : Receiver} → ReachedReceiver station s → (piece : List ℕ) (r : Heard) → saying r ≡ received s piece → TakesPiece s piece r
   -- there is a fresh receiver of either kind, and a hearing of every stream
   pub point : (s : Receiver) × IsFresh Point s
   pub station : (own : ℕ) → isStation own ≡ true → (s : Receiver) × IsFresh (Addressed own) s

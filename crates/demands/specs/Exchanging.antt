@@ -1,4 +1,4 @@
--- What is promised of one call of the point line's reader, and of its reply: a request that came is executed, or refused by a NACK; the reply
+-- What is promised of one call of the point line's reader, and of its reply: a request that came is executed, or answered with a NACK; the reply
 -- is heard, and the master reads in it what it is.
 -- 01, The point reader and 'Master's side'. Assumes nothing.
 use mathlib.Core.Path.{_≡_}
@@ -13,7 +13,7 @@ use Rattle.link_spec.specs.Limits.{mostData}
 use Rattle.link_spec.specs.Events.{FRAME}
 use Rattle.link_spec.specs.Hearing.{Told, toldAt, IsFresh, Hearing}
 use Rattle.request_spec.specs.declared.command.Command.{Command}
-use Rattle.request_spec.specs.declared.command.Acceptance.the-variants.{Accepted, Refused}
+use Rattle.request_spec.specs.declared.command.Acceptance.the-variants.{Accepted, Faulty}
 use Rattle.request_spec.specs.declared.command.Fault.{Fault}
 use Rattle.request_spec.specs.Acceptance.{nackOf, Accepts}
 use Rattle.request_spec.specs.Replies.{Reply, NACK, sign, identifierOf, frontOf}
@@ -49,7 +49,7 @@ module _ {alone : Bool} {h : History} {s : Reader} {held : List ℕ} (c : Call a
   -- the reader's state nor the store changed.
   pub record RequestNacked : Type 0 where
     pub fault : Fault
-    pub asked : asksFor (c .input) ≡ Refused fault
+    pub asked : asksFor (c .input) ≡ Faulty fault
     pub done : Done c
     pub sends : bytesSent c ≡ replyImage (identifierOf (c .input .content)) sign (NACK (nackOf fault))
     pub state : stateOf (c .answer .reader) ≡ stateOf s

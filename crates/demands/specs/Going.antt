@@ -22,7 +22,7 @@ pub data ReachedReceiver (station : Station) : Receiver → Type 0 where
 
 -- such a call is not refused, takes no byte after the piece and at least one of a piece that has any, all of them where it tells nothing, and
 -- answers the same to just the bytes that it took
-pub record Takes (s : Receiver) (piece : List ℕ) (r : Heard) : Type 0 where
+pub record TakesPiece (s : Receiver) (piece : List ℕ) (r : Heard) : Type 0 where
   pub fine : number (r .refusal) ≡ 0
   pub most : r .taken ≤ length piece
   pub some : 0 < length piece → 0 < r .taken

@@ -25,7 +25,7 @@ pub fn read_reply(identifier: u8, code: u8, data: &[u8], reply: &[u8]) -> Readin
     let acceptance = accept(code, data);
     match acceptance {
         Acceptance::Accepted(command) => read_as(identifier, code, command, reply),
-        Acceptance::Refused(_) => refused(Refusal::BadRequest),
+        Acceptance::Faulty(_) => refused(Refusal::BadRequest),
     }
 }
 

@@ -125,7 +125,7 @@ fn answer_frame(
             store,
             out,
         ),
-        Acceptance::Refused(fault) => {
+        Acceptance::Faulty(fault) => {
             sending(
                 reader,
                 Buffer::Out,

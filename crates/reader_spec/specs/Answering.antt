@@ -14,7 +14,7 @@ use Rattle.ground.specs.Laying.{onto}
 use Rattle.link_spec.specs.Events.{Name, FRAME, CHECK}
 use Rattle.request_spec.specs.declared.command.Command.{Command}
 use Rattle.request_spec.specs.declared.command.Acceptance.{Acceptance}
-use Rattle.request_spec.specs.declared.command.Acceptance.the-variants.{Accepted, Refused}
+use Rattle.request_spec.specs.declared.command.Acceptance.the-variants.{Accepted, Faulty}
 use Rattle.request_spec.specs.Limits.{mostAntenna}
 use Rattle.request_spec.specs.Acceptance.{acceptance, nackOf}
 use Rattle.request_spec.specs.Replies.{NACK, sign, identifierOf, commandOf, dataOf, wrongCheck}
@@ -108,7 +108,7 @@ module _ (s : State) (i : Input) (lent : Buffers) where
   -- 4. unknown code: NACK 2. 5. data not acceptable: NACK 3
   abbrev pub judged : Acceptance → Answered
   judged (Accepted command) = executed command
-  judged (Refused fault) = nacked s (identifierOf (i .content)) (nackOf fault) lent
+  judged (Faulty fault) = nacked s (identifierOf (i .content)) (nackOf fault) lent
 
   -- 3. the stored reply again; data is ignored, nothing changes
   abbrev pub recalled : Repeat → Answered

@@ -15,7 +15,7 @@ use Rattle.request_spec.specs.declared.parameter.Parameter.the-variants.{Speed,
 use Rattle.request_spec.specs.declared.command.Command.{Command}
 use Rattle.request_spec.specs.declared.command.Command.the-variants.{Header, Write, Read, Card}
 use Rattle.request_spec.specs.declared.command.Acceptance.{Acceptance}
-use Rattle.request_spec.specs.declared.command.Acceptance.the-variants.{Accepted, Refused}
+use Rattle.request_spec.specs.declared.command.Acceptance.the-variants.{Accepted, Faulty}
 use Rattle.request_spec.specs.Limits.{headerLength}
 use Rattle.request_spec.specs.Parameters.{parameterCode}
 use Rattle.request_spec.specs.Acceptance.{acceptance, nackOf, isAccepted}
@@ -103,7 +103,7 @@ module _ (h : History) (i : Input) where
 
   -- step 6: executed, and remembered; steps 4 and 5: not
   abbrev pub judgedHistory : Acceptance → History
-  judgedHistory (Refused fault) = h
+  judgedHistory (Faulty fault) = h
   judgedHistory (Accepted command) =
       record {
         value = valuesAfter (h .value) command (dataOf (i .content));
@@ -128,7 +128,7 @@ module _ (h : History) (i : Input) where
 
   -- the reply that is due: by steps 4 to 6
   abbrev pub judgedReply : Acceptance → Reply
-  judgedReply (Refused fault) = NACK (nackOf fault)
+  judgedReply (Faulty fault) = NACK (nackOf fault)
   judgedReply (Accepted command) = replyTo (h .value) command (i .header) (i .antenna)
 
   -- by steps 1 to 3

@@ -20,7 +20,7 @@ pub fn accept(code: u8, data: &[u8]) -> Acceptance
         0x10 => accept_bare(Command::Card(Card::Marin), data),
         0x14 => accept_bare(Command::Card(Card::Hid), data),
         0x18 => accept_bare(Command::Card(Card::Motorola), data),
-        _ => Acceptance::Refused(Fault::UnknownCode),
+        _ => Acceptance::Faulty(Fault::UnknownCode),
     }
 }
 
@@ -41,7 +41,7 @@ fn accept_bare(command: Command, data: &[u8]) -> Acceptance
     if data.len() == 0 {
         Acceptance::Accepted(command)
     } else {
-        Acceptance::Refused(Fault::BadData)
+        Acceptance::Faulty(Fault::BadData)
     }
 }
 
@@ -50,16 +50,16 @@ fn accept_write(data: &[u8]) -> Acceptance
     ensures { λ r. ⌜ r ≡ writeAccepted (now («data» .entry)) ⌝ }
 {
     if data.len() == 0 {
-        return Acceptance::Refused(Fault::BadData);
+        return Acceptance::Faulty(Fault::BadData);
     }
     let coded = with_code(data[0]);
     let Coded::Known(parameter) = coded else {
-        return Acceptance::Refused(Fault::BadData);
+        return Acceptance::Faulty(Fault::BadData);
     };
     if is_value_of(parameter, &data[1..]) {
         Acceptance::Accepted(Command::Write(parameter))
     } else {
-        Acceptance::Refused(Fault::BadData)
+        Acceptance::Faulty(Fault::BadData)
     }
 }
 
@@ -68,11 +68,11 @@ fn accept_read(data: &[u8]) -> Acceptance
     ensures { λ r. ⌜ r ≡ readAccepted (now («data» .entry)) ⌝ }
 {
     if data.len() != 1 {
-        return Acceptance::Refused(Fault::BadData);
+        return Acceptance::Faulty(Fault::BadData);
     }
     let coded = with_code(data[0]);
     match coded {
         Coded::Known(parameter) => Acceptance::Accepted(Command::Read(parameter)),
-        Coded::Unknown => Acceptance::Refused(Fault::BadData),
+        Coded::Unknown => Acceptance::Faulty(Fault::BadData),
     }
 }

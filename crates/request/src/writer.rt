@@ -16,6 +16,6 @@ pub fn write_request(identifier: u8, code: u8, data: &[u8], out: &mut [u8]) -> C
     let acceptance = accept(code, data);
     match acceptance {
         Acceptance::Accepted(_) => write_point(identifier, code, data, out),
-        Acceptance::Refused(_) => Counted::refused(Refusal::BadRequest),
+        Acceptance::Faulty(_) => Counted::refused(Refusal::BadRequest),
     }
 }

@@ -13,7 +13,7 @@ use Rattle.request_spec.specs.declared.command.Card.the-variants.{Marin,
 use Rattle.request_spec.specs.declared.command.Command.{Command}
 use Rattle.request_spec.specs.declared.command.Command.the-variants.{Header, Write, Read, Card}
 use Rattle.request_spec.specs.declared.command.Acceptance.{Acceptance}
-use Rattle.request_spec.specs.declared.command.Acceptance.the-variants.{Accepted, Refused}
+use Rattle.request_spec.specs.declared.command.Acceptance.the-variants.{Accepted, Faulty}
 use Rattle.request_spec.specs.declared.command.Fault.{Fault}
 use Rattle.request_spec.specs.declared.command.Fault.the-variants.{UnknownCode, BadData}
 use Rattle.request_spec.specs.Parameters.{parameterCode, parameterWith, isValueOf, IsValue}
@@ -30,26 +30,26 @@ commandCode (Card Motorola) = 0x18
 -- data accepted: none
 abbrev pub bareAccepted : Command → List ℕ → Acceptance
 bareAccepted command [] = Accepted command
-bareAccepted command (b ∷ more) = Refused BadData
+bareAccepted command (b ∷ more) = Faulty BadData
 
 -- a parameter code, then a value of exactly its length; for 02 a value 3..10
 abbrev pub writeAcceptedTo : Coded → List ℕ → Acceptance
-writeAcceptedTo coded.Unknown value = Refused BadData
-writeAcceptedTo (coded.Known p) value = cond (isValueOf p value) (Accepted (Write p)) (Refused BadData)
+writeAcceptedTo coded.Unknown value = Faulty BadData
+writeAcceptedTo (coded.Known p) value = cond (isValueOf p value) (Accepted (Write p)) (Faulty BadData)
 
 abbrev pub writeAccepted : List ℕ → Acceptance
-writeAccepted [] = Refused BadData
+writeAccepted [] = Faulty BadData
 writeAccepted (code ∷ value) = writeAcceptedTo (parameterWith code) value
 
 -- one existing parameter code
 abbrev pub readAcceptedFrom : Coded → Acceptance
-readAcceptedFrom coded.Unknown = Refused BadData
+readAcceptedFrom coded.Unknown = Faulty BadData
 readAcceptedFrom (coded.Known p) = Accepted (Read p)
 
 abbrev pub readAccepted : List ℕ → Acceptance
-readAccepted [] = Refused BadData
+readAccepted [] = Faulty BadData
 readAccepted (code ∷ []) = readAcceptedFrom (parameterWith code)
-readAccepted (code ∷ b ∷ more) = Refused BadData
+readAccepted (code ∷ b ∷ more) = Faulty BadData
 
 -- the codes that exist
 abbrev pub isKnown : ℕ → Bool
@@ -63,7 +63,7 @@ acceptance code «data» =
     (cond (eqb code 0x02) (readAccepted «data»)
     (cond (eqb code 0x10) (bareAccepted (Card Marin) «data»)
     (cond (eqb code 0x14) (bareAccepted (Card Hid) «data»)
-    (cond (eqb code 0x18) (bareAccepted (Card Motorola) «data») (Refused UnknownCode))))))
+    (cond (eqb code 0x18) (bareAccepted (Card Motorola) «data») (Faulty UnknownCode))))))
 
 -- the NACK that a reader answers instead: unknown code: NACK 2 (step 4); data not acceptable: NACK 3 (step 5)
 abbrev pub nackOf : Fault → ℕ
@@ -81,11 +81,11 @@ judgement (Accepted Header) = byCode (commandCode Header)
 judgement (Accepted (Write p)) = byCodes (commandCode (Write p)) (parameterCode p)
 judgement (Accepted (Read p)) = byCodes (commandCode (Read p)) (parameterCode p)
 judgement (Accepted (Card card)) = byCode (commandCode (Card card))
-judgement (Refused fault) = byNumber (nackOf fault)
+judgement (Faulty fault) = byNumber (nackOf fault)
 
 abbrev pub isAccepted : Acceptance → Bool
 isAccepted (Accepted command) = true
-isAccepted (Refused fault) = false
+isAccepted (Faulty fault) = false
 
 -- data that a command was accepted with: of a write's, what stands after the parameter's code is a value of that parameter
 abbrev pub FitsCommand : Command → List ℕ → Type 0

@@ -13,7 +13,7 @@ use Rattle.ground.specs.Refusals.{number}
 use Rattle.request_spec.specs.declared.command.Command.{Command}
 use Rattle.request_spec.specs.declared.command.Command.the-variants.{Header, Write, Read, Card}
 use Rattle.request_spec.specs.declared.command.Acceptance.{Acceptance}
-use Rattle.request_spec.specs.declared.command.Acceptance.the-variants.{Accepted, Refused}
+use Rattle.request_spec.specs.declared.command.Acceptance.the-variants.{Accepted, Faulty}
 use Rattle.request_spec.specs.declared.reply.Meaning.{Meaning}
 use Rattle.request_spec.specs.declared.reply.Meaning.the-variants as meaning
 use Rattle.request_spec.specs.declared.reply.Reading.{Reading}
@@ -100,7 +100,7 @@ readAs identifier code reply command =
 -- and before them row 5: a request that step 4 or 5 would refuse
 abbrev pub readBy : ℕ → ℕ → List ℕ → Acceptance → Understood
 readBy identifier code reply (Accepted command) = readAs identifier code reply command
-readBy identifier code reply (Refused fault) = notRead BadRequest
+readBy identifier code reply (Faulty fault) = notRead BadRequest
 
 unfoldable pub replyRead : ℕ → ℕ → List ℕ → List ℕ → Understood
 replyRead identifier code «data» reply = readBy identifier code reply (acceptance code «data»)

@@ -25,5 +25,5 @@ pub enum Fault {
 
 pub enum Acceptance {
     Accepted(Command),
-    Refused(Fault),
+    Faulty(Fault),
 }

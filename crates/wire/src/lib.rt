@@ -1,9 +1,9 @@
 // Stuffing and wire images: the length of a content's image, and a frame put together and written.
-mod frame;
+mod content;
 mod image;
 mod stuffing;
 
-pub use frame::write_frame;
+pub use content::write_frame;
 pub use image::image_length;
 pub use wire_spec::ESCAPE;
 pub use wire_spec::LAST_PARTNER;

@@ -19,7 +19,7 @@ use Rattle.tape_spec.specs.Limits.{mostRecords, leastRoom}
 use Rattle.tape_spec.specs.Taping.{badTape, isOver, ListedOut, listedOut, listed}
 use Rattle.tape_spec.proofs.Laws.Taping.{lists-chunk, listed-within, listed-some, fresh-fine, listed-fine}
 use Rattle.demands.specs.Going as going
-use Rattle.demands.specs.Going.{ReachedReceiver, Takes, ReachedTape, TakesChunk}
+use Rattle.demands.specs.Going.{ReachedReceiver, TakesPiece, ReachedTape, TakesChunk}
 
 -- ---- a receiver
 
@@ -29,7 +29,7 @@ reached-good (going.after {s} was piece r says) =
     ap (λ (said : Said). badReceiver (said .receiver)) says ∙ stays-good s piece (reached-good was)
 
 pub receiver-goes-on : {station : Station} {s : Receiver} → ReachedReceiver station s → (piece : List ℕ) (r : Heard) → saying r ≡ received s piece
-    → Takes s piece r
+    → TakesPiece s piece r
 receiver-goes-on {s = s} was piece r says =
     let good = reached-good was in
     let t = received-takes s piece good in

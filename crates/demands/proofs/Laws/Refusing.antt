@@ -27,7 +27,7 @@ use Rattle.link_spec.specs.Receiving.{freshReceiver, freshMade, badReceiver, no
 use Rattle.link_spec.proofs.Laws.Receiving.{refused-only}
 use Rattle.request_spec.specs.declared.command.Command.{Command}
 use Rattle.request_spec.specs.declared.command.Acceptance.{Acceptance}
-use Rattle.request_spec.specs.declared.command.Acceptance.the-variants.{Accepted, Refused}
+use Rattle.request_spec.specs.declared.command.Acceptance.the-variants.{Accepted, Faulty}
 use Rattle.request_spec.specs.Acceptance.{acceptance, isAccepted}
 use Rattle.request_spec.specs.Replies.{dataOf, ackByte}
 use Rattle.request_spec.specs.Requesting.{requestWritten}
@@ -133,7 +133,7 @@ module _ (identifier code : ℕ) («data» reply : List ℕ) where
 
   by-meaningless : (k : Acceptance) → Meaningless (readBy identifier code reply k)
   unfolding readAs
-  by-meaningless (Refused fault) = λ refused. refl
+  by-meaningless (Faulty fault) = λ refused. refl
   by-meaningless (Accepted command) =
       cond-elim Meaningless (wrongId identifier reply) (λ wrong refused. refl)
       (λ own. cond-elim Meaningless (wrongCommand code reply) (λ wrong refused. refl)

@@ -9,7 +9,7 @@ use Rattle.link_spec.specs.Limits.{mostData}
 use Rattle.link_spec.specs.Events.{FRAME}
 use Rattle.request_spec.specs.declared.command.Command.{Command}
 use Rattle.request_spec.specs.declared.command.Acceptance.{Acceptance}
-use Rattle.request_spec.specs.declared.command.Acceptance.the-variants.{Accepted, Refused}
+use Rattle.request_spec.specs.declared.command.Acceptance.the-variants.{Accepted, Faulty}
 use Rattle.request_spec.specs.Acceptance.{acceptance, isAccepted, Accepts}
 use Rattle.request_spec.specs.Replies.{identifierOf, commandOf, dataOf}
 use Rattle.request_spec.proofs.Laws.Acceptance.{accepts, accepted, accepted-short}
@@ -64,7 +64,7 @@ module _ {alone : Bool} {s : Reader} {held : List ℕ} {h : History} (se : Reade
       }
 
   judge-nacks : (k : Acceptance) → acceptance code «data» ≡ k → isAccepted k ≡ false → length «data» ≤ mostData → RequestNacked c
-  judge-nacks (Refused fault) asked bad short =
+  judge-nacks (Faulty fault) asked bad short =
       let fine = done short in
       let judged = judges asked short in
       record {
@@ -86,5 +86,5 @@ module _ {alone : Bool} {s : Reader} {held : List ℕ} {h : History} (se : Reade
   request-nacked none = judge-nacks (acceptance code «data») refl (of (acceptance code «data») refl)
     where
       of : (k : Acceptance) → acceptance code «data» ≡ k → isAccepted k ≡ false
-      of (Refused fault) is = refl
+      of (Faulty fault) is = refl
       of (Accepted command) is = absurd (none command (accepts code «data» is))

@@ -17,7 +17,7 @@ use Rattle.request_spec.specs.declared.parameter.Parameter.{Parameter}
 use Rattle.request_spec.specs.declared.parameter.Parameter.the-variants.{Speed, Settings, Cell}
 use Rattle.request_spec.specs.declared.command.Command.{Command}
 use Rattle.request_spec.specs.declared.command.Acceptance.{Acceptance}
-use Rattle.request_spec.specs.declared.command.Acceptance.the-variants.{Accepted, Refused}
+use Rattle.request_spec.specs.declared.command.Acceptance.the-variants.{Accepted, Faulty}
 use Rattle.request_spec.specs.Limits.{headerLength}
 use Rattle.request_spec.specs.Parameters.{lengthOf, isSpeed}
 use Rattle.request_spec.specs.Acceptance.{acceptance, nackOf, FitsCommand}
@@ -192,7 +192,7 @@ module _ (alone : Bool) (s : State) (i : Input) (lent : Buffers) (whole : length
         → Agrees alone s (lent .store) (known (valueOf (s .parameters)))
         → StepAgrees alone (judgedHistory (known (valueOf (s .parameters))) i k)
         (bytesOf (i .content) (some (judgedReply (known (valueOf (s .parameters))) i k))) false (judged s i lent k)
-    judged-agrees (Refused fault) asked a = nack-agrees (identifierOf (i .content)) (nackOf fault) a
+    judged-agrees (Faulty fault) asked a = nack-agrees (identifierOf (i .content)) (nackOf fault) a
     judged-agrees (Accepted command) asked a = executed-agrees command (fits-command (accepts (commandOf (i .content)) (dataOf (i .content)) asked)) a
 
   recalled-agrees : (value : Parameter → List ℕ) (last : Option Execution)

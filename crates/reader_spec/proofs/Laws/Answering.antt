@@ -17,7 +17,7 @@ use Rattle.ground.proofs.Laws.Choice.{cond-elim, or-none, by-test}
 use Rattle.link_spec.specs.Limits.{mostData}
 use Rattle.link_spec.specs.Events.{Name, NONE, FRAME, CHECK, SHORT, LONG, PAIR, ADDR}
 use Rattle.request_spec.specs.declared.command.Acceptance.{Acceptance}
-use Rattle.request_spec.specs.declared.command.Acceptance.the-variants.{Accepted, Refused}
+use Rattle.request_spec.specs.declared.command.Acceptance.the-variants.{Accepted, Faulty}
 use Rattle.request_spec.specs.Limits.{mostAntenna}
 use Rattle.request_spec.specs.Acceptance.{acceptance, nackOf}
 use Rattle.request_spec.specs.Replies.{NACK, sign, identifierOf, commandOf, dataOf, wrongCheck}
@@ -225,7 +225,7 @@ module _ (s : State) (i : Input) (lent : Buffers) where
   judged-kept : (k : Acceptance) → Kept (judged s i lent k)
   judged-kept (Accepted command) =
       record { none = refl; store = drop-append-seam (replyBytes s i lent command) _; out = drop-append-seam (replyBytes s i lent command) _ }
-  judged-kept (Refused fault) = nack-kept (identifierOf (i .content)) (nackOf fault)
+  judged-kept (Faulty fault) = nack-kept (identifierOf (i .content)) (nackOf fault)
 
   recalled-kept : (k : Repeat) → Kept (recalled s i lent k)
   recalled-kept (Stored length) = record { none = refl; store = refl; out = refl }

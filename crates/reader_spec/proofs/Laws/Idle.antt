@@ -11,7 +11,7 @@ use Prim.Native.Nat.{ℕ}
 use Rattle.ground.specs.Refusals.{number}
 use Rattle.ground.proofs.Laws.Choice.{cond-elim, by-test}
 use Rattle.request_spec.specs.declared.command.Acceptance.{Acceptance}
-use Rattle.request_spec.specs.declared.command.Acceptance.the-variants.{Accepted, Refused}
+use Rattle.request_spec.specs.declared.command.Acceptance.the-variants.{Accepted, Faulty}
 use Rattle.request_spec.specs.Acceptance.{isAccepted}
 use Rattle.reader_spec.specs.declared.reader.Asking.{Asking}
 use Rattle.reader_spec.specs.declared.reader.Asking.the-variants.{Nothing, Wrong, Right}
@@ -29,7 +29,7 @@ use Rattle.reader_spec.proofs.Laws.Sessions.{session-agrees, loose-call
 -- ---- such a call tells nothing new
 
 judged-nothing : (h : History) (i : Input) (k : Acceptance) → isAccepted k ≡ false → judgedHistory h i k ≡ h
-judged-nothing h i (Refused fault) idle = refl
+judged-nothing h i (Faulty fault) idle = refl
 judged-nothing h i (Accepted command) idle = absurd (true≢false idle)
 
 executes-nothing-as : (h : History) (i : Input) (asked : Asking) → isExecutedAs h i asked ≡ false → nextHistoryAs h i asked ≡ h
@@ -50,7 +50,7 @@ record Unchanged (s : State) (lent : Buffers) (a : Answered) : Type 0 where
 
 module _ (s : State) (i : Input) (lent : Buffers) where
   judged-keeps : (k : Acceptance) → isAccepted k ≡ false → Unchanged s lent (judged s i lent k)
-  judged-keeps (Refused fault) idle = record { state = refl; kept = refl }
+  judged-keeps (Faulty fault) idle = record { state = refl; kept = refl }
   judged-keeps (Accepted command) idle = absurd (true≢false idle)
 
   recalled-keeps : (last : Option Execution) → Unchanged s lent (recalledAs s lent last)

@@ -12,7 +12,7 @@ use Rattle.ground.specs.Refusals.{number}
 use Rattle.ground.proofs.Laws.Choice.{by-test}
 use Rattle.link_spec.specs.Events.{FRAME, CHECK}
 use Rattle.request_spec.specs.declared.command.Acceptance.{Acceptance}
-use Rattle.request_spec.specs.declared.command.Acceptance.the-variants.{Accepted, Refused}
+use Rattle.request_spec.specs.declared.command.Acceptance.the-variants.{Accepted, Faulty}
 use Rattle.request_spec.specs.declared.command.Command.{Command}
 use Rattle.request_spec.specs.Acceptance.{isAccepted}
 use Rattle.request_spec.specs.Replies.{NACK, sign, wrongCheck, identifierOf, commandOf}
@@ -163,7 +163,7 @@ module _ {alone : Bool} {s : Reader} {held : List ℕ} {h : History} (se : Reade
         where
           of : (k : Acceptance) → asksFor (c .input) ≡ k → isAccepted k ≡ true → (command : Command) × (asksFor (c .input) ≡ Accepted command)
           of (Accepted command) is fine = (command, is)
-          of (Refused fault) is fine = absurd (false≢true fine)
+          of (Faulty fault) is fine = absurd (false≢true fine)
 
       pub call-executed : {command : Command} → asksFor (c .input) ≡ Accepted command
           → answerSays (c .answer) (c .left) ≡ executed (stateOf s) (c .input) (c .lent) command

@@ -14,7 +14,7 @@ use Rattle.request_spec.specs.declared.command.Command.{Command}
 use Rattle.request_spec.specs.declared.command.Command.the-variants as Command
 use Rattle.request_spec.specs.declared.command.Command.the-variants.{Write, Read}
 use Rattle.request_spec.specs.declared.command.Acceptance.{Acceptance}
-use Rattle.request_spec.specs.declared.command.Acceptance.the-variants.{Accepted, Refused}
+use Rattle.request_spec.specs.declared.command.Acceptance.the-variants.{Accepted, Faulty}
 use Rattle.request_spec.specs.Parameters.{parameterCode}
 use Rattle.request_spec.specs.Replies.{DATA, identifierOf, commandOf, dataOf}
 use Rattle.request_spec.proofs.Laws.Parameters.{same-code}
@@ -42,7 +42,7 @@ module _ (p : Parameter) (h : History) (i : Input) where
   values-kept (Command.Card card) not = refl
 
   judged-kept : (k : Acceptance) → (k ≡ Accepted (Write p) → ⊥) → judgedHistory h i k .value p ≡ h .value p
-  judged-kept (Refused fault) not = refl
+  judged-kept (Faulty fault) not = refl
   judged-kept (Accepted command) not = values-kept command not
 
   value-kept : (asked : Asking) → (asksFor i ≡ Accepted (Write p) → ⊥) → nextHistoryAs h i asked .value p ≡ h .value p

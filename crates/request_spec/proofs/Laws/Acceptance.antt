@@ -20,7 +20,7 @@ use Rattle.request_spec.specs.declared.command.Card.the-variants.{Marin,
 use Rattle.request_spec.specs.declared.command.Command.{Command}
 use Rattle.request_spec.specs.declared.command.Command.the-variants.{Header, Write, Read, Card}
 use Rattle.request_spec.specs.declared.command.Acceptance.{Acceptance}
-use Rattle.request_spec.specs.declared.command.Acceptance.the-variants.{Accepted, Refused}
+use Rattle.request_spec.specs.declared.command.Acceptance.the-variants.{Accepted, Faulty}
 use Rattle.request_spec.specs.declared.command.Fault.the-variants.{UnknownCode, BadData}
 use Rattle.request_spec.specs.Parameters.{parameterCode, parameterWith, isValueOf}
 use Rattle.request_spec.specs.Acceptance.{bareAccepted, writeAcceptedTo, writeAccepted, readAcceptedFrom, readAccepted, isKnown, acceptance, commandCode, Judgement, byCode, byCodes, byNumber, judgement, FitsCommand, Accepts, header, write, read, marin, hid, motorola}
@@ -32,11 +32,11 @@ pub bare-none : (command : Command) («data» : List ℕ) → length «data» �
 bare-none command [] none = refl
 bare-none command (b ∷ more) none = absurd (omega arith)
 
-pub bare-some : (command : Command) («data» : List ℕ) → (length «data» ≡ 0 → ⊥) → Refused BadData ≡ bareAccepted command «data»
+pub bare-some : (command : Command) («data» : List ℕ) → (length «data» ≡ 0 → ⊥) → Faulty BadData ≡ bareAccepted command «data»
 bare-some command [] some = absurd (some refl)
 bare-some command (b ∷ more) some = refl
 
-pub write-none : («data» : List ℕ) → length «data» ≡ 0 → Refused BadData ≡ writeAccepted «data»
+pub write-none : («data» : List ℕ) → length «data» ≡ 0 → Faulty BadData ≡ writeAccepted «data»
 write-none [] none = refl
 write-none (b ∷ more) none = absurd (omega arith)
 
@@ -47,11 +47,11 @@ write-some (code ∷ value) some known = ap (λ (k : Coded). writeAcceptedTo k v
 
 pub write-value : {p : Parameter} {t : Bool} («data» : List ℕ) → (length «data» ≡ 0 → ⊥) → parameterWith (getD «data» 0 0) ≡ Known p
     → isValueOf p (drop 1 «data») ≡ t
-    → cond t (Accepted (Write p)) (Refused BadData) ≡ writeAccepted «data»
+    → cond t (Accepted (Write p)) (Faulty BadData) ≡ writeAccepted «data»
 write-value {p} «data» some known taken =
-    ap (λ (t : Bool). cond t (Accepted (Write p)) (Refused BadData)) (sym taken) ∙ write-some «data» some known
+    ap (λ (t : Bool). cond t (Accepted (Write p)) (Faulty BadData)) (sym taken) ∙ write-some «data» some known
 
-pub read-other : («data» : List ℕ) → (length «data» ≡ 1 → ⊥) → Refused BadData ≡ readAccepted «data»
+pub read-other : («data» : List ℕ) → (length «data» ≡ 1 → ⊥) → Faulty BadData ≡ readAccepted «data»
 read-other [] other = refl
 read-other (code ∷ []) other = absurd (other refl)
 read-other (code ∷ b ∷ more) other = refl
@@ -66,8 +66,8 @@ read-one (code ∷ b ∷ more) one known = absurd (omega arith)
 
 abbrev Row : ℕ → List ℕ → Acceptance → Type 0
 Row code «data» (Accepted command) = Accepts code «data» command
-Row code «data» (Refused UnknownCode) = isKnown code ≡ false
-Row code «data» (Refused BadData) = Unit {0}
+Row code «data» (Faulty UnknownCode) = isKnown code ≡ false
+Row code «data» (Faulty BadData) = Unit {0}
 
 -- a code names its parameter
 abbrev Named : ℕ → Coded → Type 0
@@ -129,10 +129,10 @@ module _ (code : ℕ) («data» : List ℕ) where
       P = Row code «data»
 
   -- NACK 2 is for a code that does not exist, and only for that
-  pub unknown-only : acceptance code «data» ≡ Refused UnknownCode → isKnown code ≡ false
+  pub unknown-only : acceptance code «data» ≡ Faulty UnknownCode → isKnown code ≡ false
   unknown-only asked = subst (Row code «data») asked by-row
 
-  pub unknown-code : isKnown code ≡ false → acceptance code «data» ≡ Refused UnknownCode
+  pub unknown-code : isKnown code ≡ false → acceptance code «data» ≡ Faulty UnknownCode
   unfolding acceptance
   unknown-code unknown =
       let (a, s) = or-none (eqb code 0x00) _ unknown in
@@ -191,7 +191,7 @@ caseOf (byCode code) =
     cond (eqb code 0x00) (Accepted Header)
     (cond (eqb code 0x10) (Accepted (Card Marin)) (cond (eqb code 0x14) (Accepted (Card Hid)) (Accepted (Card Motorola))))
 caseOf (byCodes code p) = cond (eqb code 0x01) (Accepted (Write (parameterOf p))) (Accepted (Read (parameterOf p)))
-caseOf (byNumber n) = cond (eqb n 2) (Refused UnknownCode) (Refused BadData)
+caseOf (byNumber n) = cond (eqb n 2) (Faulty UnknownCode) (Faulty BadData)
 
 case-judged : (a : Acceptance) → caseOf (judgement a) ≡ a
 case-judged (Accepted Header) = refl
@@ -204,8 +204,8 @@ case-judged (Accepted (Read Cell)) = refl
 case-judged (Accepted (Card Marin)) = refl
 case-judged (Accepted (Card Hid)) = refl
 case-judged (Accepted (Card Motorola)) = refl
-case-judged (Refused UnknownCode) = refl
-case-judged (Refused BadData) = refl
+case-judged (Faulty UnknownCode) = refl
+case-judged (Faulty BadData) = refl
 
 pub judgement-injective : (a b : Acceptance) → judgement a ≡ judgement b → a ≡ b
 judgement-injective = LeftInverse·injective caseOf judgement case-judged

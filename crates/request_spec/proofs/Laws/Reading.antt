@@ -14,7 +14,7 @@ use Rattle.ground.proofs.Laws.Choice.{cond-elim, between-true, between-is, no-c
 use Rattle.request_spec.specs.declared.parameter.Parameter.the-variants.{Speed, Settings, Cell}
 use Rattle.request_spec.specs.declared.command.Command.{Command}
 use Rattle.request_spec.specs.declared.command.Acceptance.{Acceptance}
-use Rattle.request_spec.specs.declared.command.Acceptance.the-variants.{Accepted, Refused}
+use Rattle.request_spec.specs.declared.command.Acceptance.the-variants.{Accepted, Faulty}
 use Rattle.request_spec.specs.Acceptance.{acceptance, Accepts, header, write, read, marin, hid, motorola}
 use Rattle.request_spec.specs.Replies.{ACK, NACK, DATA, sign, ackByte, identifierOf, commandOf, dataOf, frontOf}
 use Rattle.request_spec.specs.Reading.{Understood, notRead, hasRead, isDue, wrongId, isSign, signRead, dataRead, readAs, readBy, replyRead, isWrite, isNack, reasonRead, Due, forHeader, forSpeed, forSettings, forCell, forMarin, forHid, forMotorola, ByReply, empty, otherIdentifier, noCommand, otherCommand, echo, dataLength, signLength, otherReason, ackForData, ack, nack, bytes, MasterTable, badRequest, acceptable}
@@ -244,7 +244,7 @@ module _ (identifier code : ℕ) («data» : List ℕ) where
     by-table = of (acceptance code «data») refl
       where
         of : (k : Acceptance) → acceptance code «data» ≡ k → MasterTable identifier code «data» reply (readBy identifier code reply k)
-        of (Refused fault) asked = badRequest (λ command row. no-case (cc (accepted row)))
+        of (Faulty fault) asked = badRequest (λ command row. no-case (cc (accepted row)))
         of (Accepted command) asked = let row = accepts code «data» asked in acceptable row (by-reply row reply)
 
     pub table-only : {answer : Understood} → MasterTable identifier code «data» reply answer → answer ≡ replyRead identifier code «data» reply
@@ -252,6 +252,6 @@ module _ (identifier code : ℕ) («data» : List ℕ) where
     table-only (badRequest none) = of (acceptance code «data») refl
       where
         of : (k : Acceptance) → acceptance code «data» ≡ k → notRead BadRequest ≡ readBy identifier code reply k
-        of (Refused fault) asked = refl
+        of (Faulty fault) asked = refl
         of (Accepted command) asked = absurd (none command (accepts code «data» asked))
     table-only (acceptable row why) = rw (accepted row) (reply-only row why)

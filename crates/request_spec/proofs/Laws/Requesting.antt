@@ -26,14 +26,14 @@ use Rattle.link_spec.proofs.Laws.Writers.{point-goes-on, point-by-table}
 use Rattle.link_spec.proofs.Laws.Listed.{point-listed}
 use Rattle.request_spec.specs.declared.command.Command.{Command}
 use Rattle.request_spec.specs.declared.command.Acceptance.{Acceptance}
-use Rattle.request_spec.specs.declared.command.Acceptance.the-variants.{Accepted, Refused}
+use Rattle.request_spec.specs.declared.command.Acceptance.the-variants.{Accepted, Faulty}
 use Rattle.request_spec.specs.Acceptance.{acceptance, isAccepted, Accepts}
 use Rattle.request_spec.specs.Requesting.{requestWritten, RequestTable, badRequest, noRoom, frame}
 use Rattle.request_spec.proofs.Laws.Acceptance.{accepts, accepted, accepted-short}
 
 -- a code with data is accepted or not
 either : (k : Acceptance) → (isAccepted k ≡ false) ⊎ ((command : Command) × (k ≡ Accepted command))
-either (Refused fault) = inl refl
+either (Faulty fault) = inl refl
 either (Accepted command) = inr (command, refl)
 
 module _ (identifier code : ℕ) («data» out : List ℕ) where
@@ -53,7 +53,7 @@ module _ (identifier code : ℕ) («data» out : List ℕ) where
     where
       of : (k : Acceptance) → acceptance code «data» ≡ k → RequestTable identifier code «data» out
           (cond (isAccepted k) (imageWritten (pointContent identifier code «data») out) (notWritten BadRequest out))
-      of (Refused fault) is = badRequest (λ command row. true≢false (sym (ap isAccepted (accepted row)) ∙ ap isAccepted is))
+      of (Faulty fault) is = badRequest (λ command row. true≢false (sym (ap isAccepted (accepted row)) ∙ ap isAccepted is))
       of (Accepted command) is =
           cond-elim (RequestTable identifier code «data» out) (ltb (length out) (length (image (pointContent identifier code «data»))))
           (λ short. noRoom (accepts code «data» is) (ltb-true (length out) (length (image (pointContent identifier code «data»))) short))
@@ -68,7 +68,7 @@ module _ (identifier code : ℕ) («data» out : List ℕ) where
   table-only (badRequest none) = sym (request-refused (of (acceptance code «data») refl))
     where
       of : (k : Acceptance) → acceptance code «data» ≡ k → isAccepted k ≡ false
-      of (Refused fault) is = refl
+      of (Faulty fault) is = refl
       of (Accepted command) is = absurd (none command (accepts code «data» is))
   table-only (noRoom row short) = sym (written-as row ∙ written-short (pointContent identifier code «data») out short)
   table-only (frame row fits) = sym (written-as row ∙ written-whole (pointContent identifier code «data») out fits)

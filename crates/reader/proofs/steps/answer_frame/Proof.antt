@@ -4,7 +4,7 @@ use mathlib.Core.Path.{sym, _∙_}
 use native.Mathlib.Omega.{arith}
 use borrow.Author.Needs.{needs}
 use Rattle.ground.proofs.Laws.Lists.{take-rest}
-use Rattle.request_spec.specs.declared.command.Acceptance.the-variants.{Accepted, Refused}
+use Rattle.request_spec.specs.declared.command.Acceptance.the-variants.{Accepted, Faulty}
 use Rattle.request_spec.specs.Replies.{NACK, sign, identifierOf, commandOf}
 use Rattle.request_spec.proofs.Laws.Acceptance.{accepts, fits-command, judged-as}
 use Rattle.reader_spec.specs.declared.reader.Repeat.the-variants.{Stored}
@@ -118,7 +118,7 @@ returns-3 c =
     let asked = rw (take-rest content 2) at
     (judged-as (commandOf content) _ (c .before .before .before .before .before .before .before .before .before .accept .ensures) (known .1))
     in
-    rw (framed-new {a = Refused (known .0 .0)}, ← n .ensures)
+    rw (framed-new {a = Faulty (known .0 .0)}, ← n .ensures)
     (put-answers (a .reader) (replyContent (identifierOf content) sign (NACK (n .result))) (a .store .now) (a .out .now)
     (c .sending2 .ensures) (c .before .before .before .write-nack .ensures))
 

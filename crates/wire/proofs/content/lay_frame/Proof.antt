@@ -1,4 +1,4 @@
--- `frame::lay_frame`: head, data and check are put one after the other, so the front of the array is the content, and its image is written.
+-- `content::lay_frame`: head, data and check are put one after the other, so the front of the array is the content, and its image is written.
 -- Assumes nothing.
 use mathlib.Core.Path.{_≡_, sym, ap, _∙_}
 use mathlib.Core.List.{List, _++_}
@@ -11,8 +11,8 @@ use Rattle.checks.specs.Check.{checkLength, withCheck}
 use Rattle.checks.proofs.Laws.Check.{length-withCheck}
 use Rattle.wire_spec.specs.Writing.{imageWritten}
 use Rattle.wire_spec.proofs.Laws.Frame.{withCheck-laid}
-use Rattle.wire.proofs.frame.lay_frame.Statement.{statement}
-use Rattle.wire.proofs.frame.lay_frame.Tie as tie
+use Rattle.wire.proofs.content.lay_frame.Statement.{statement}
+use Rattle.wire.proofs.content.lay_frame.Tie as tie
 
 -- the function's entry, from the place where the content is whole
 entry : tie.After-content7 → tie.Start

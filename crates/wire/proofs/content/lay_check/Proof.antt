@@ -1,4 +1,4 @@
--- `frame::lay_check`: each arm puts the bytes of the check that it names, and there is room for them.
+-- `content::lay_check`: each arm puts the bytes of the check that it names, and there is room for them.
 -- Assumes nothing.
 use mathlib.Core.Path.{sym, ap, _∙_}
 use mathlib.Core.List.{[], _∷_}
@@ -10,8 +10,8 @@ use Rattle.ground.specs.Laying.{laid}
 use Rattle.ground.proofs.Laws.Laying.{put-laid}
 use Rattle.checks.specs.Fcs.{fcsBytes}
 use Rattle.checks.specs.Check.{checkOf, checkLength}
-use Rattle.wire.proofs.frame.lay_check.Statement.{statement}
-use Rattle.wire.proofs.frame.lay_check.Tie as tie
+use Rattle.wire.proofs.content.lay_check.Statement.{statement}
+use Rattle.wire.proofs.content.lay_check.Tie as tie
 
 enum-told : tie.Need-enum-told
 enum-told c = search needs

@@ -1,12 +1,12 @@
--- `frame::write_frame`: the two tests say whether head, data and check are over the limit together, and what they let pass is within it.
+-- `content::write_frame`: the two tests say whether head, data and check are over the limit together, and what they let pass is within it.
 -- Assumes nothing.
 use mathlib.Core.Path.{sym, _∙_}
 use native.Mathlib.Omega.{arith}
 use borrow.Author.Needs.{needs}
 use Rattle.checks.proofs.Laws.Check.{check-most}
 use Rattle.wire_spec.proofs.Laws.Frame.{frame-within, frame-over}
-use Rattle.wire.proofs.frame.write_frame.Statement.{statement}
-use Rattle.wire.proofs.frame.write_frame.Tie as tie
+use Rattle.wire.proofs.content.write_frame.Statement.{statement}
+use Rattle.wire.proofs.content.write_frame.Tie as tie
 
 check-length-requires : tie.Need-check-length-requires
 check-length-requires c κs = search needs

@@ -1,4 +1,4 @@
-// A frame put together: head, data and the check after them, and then its image.
+// The content of a frame put together, head, data and the check after them, and its image written.
 use crate::image::write_image;
 use checks::Check;
 use checks::check_length;
