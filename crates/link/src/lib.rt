@@ -1,7 +1,5 @@
-// The two serial lines of ProX card readers: their stations, the receiver of either, and, handed on, the writers of their frames.
+// The two serial lines of ProX card readers: the receiver of either and, handed on, the writers of their frames.
 mod receiver;
-mod rules;
-mod station;
 
 pub use frame::write_addressed;
 pub use frame::write_point;

@@ -1,9 +1,4 @@
 // The receiver of either line: fresh ones, and the call that takes a piece of a stream.
-use crate::rules::at_byte;
-use crate::rules::at_stop;
-use crate::station::check_on;
-use crate::station::has_address;
-use crate::station::is_station;
 use ground::Refusal;
 use link_spec::Event;
 use link_spec::Fresh;
@@ -14,6 +9,9 @@ use link_spec::SILENT;
 use link_spec::Station;
 use link_spec::Turn;
 use link_spec::Verdict;
+use station::at_byte;
+use station::at_stop;
+use station::has_address;
 use wire::MOST_CONTENT;
 ghost use mathlib.Core.Path.{_≡_};
 ghost use Prim.Native.Nat.{_≤_};
@@ -38,7 +36,7 @@ pub fn fresh_addressed(own: u8) -> Fresh
     ensures { λ r. ⌜ made r ≡ freshMade own ⌝ }
 {
     let receiver = fresh(Station::Addressed(own));
-    let refusal = if is_station(own) {
+    let refusal = if has_address(Station::Addressed(own)) {
         Refusal::None
     } else {
         Refusal::BadAddress
@@ -122,7 +120,7 @@ fn hear(receiver: Receiver, piece: &[u8]) -> Heard
                 count += 1;
             }
             Turn::Stop => {
-                let verdict = at_stop(check_on(station), &content[..count]);
+                let verdict = at_stop(station, &content[..count]);
                 break Found { verdict, taken };
             }
             Turn::Tell(event) => {

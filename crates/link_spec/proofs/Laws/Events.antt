@@ -18,7 +18,7 @@ use Rattle.link_spec.specs.Events.{Name, NONE, FRAME, CHECK, SHORT, LONG
 use Rattle.link_spec.specs.Rules.{ByStop, short, wrong, right}
 
 -- the event with this name
-abbrev eventOf : Name → Event
+abbrev pub eventOf : Name → Event
 eventOf NONE = None
 eventOf FRAME = Frame
 eventOf CHECK = Check
@@ -27,7 +27,7 @@ eventOf LONG = Long
 eventOf PAIR = Pair
 eventOf ADDR = Addr
 
-eventOf-named : (e : Event) → eventOf (named e) ≡ e
+pub eventOf-named : (e : Event) → eventOf (named e) ≡ e
 eventOf-named None = refl
 eventOf-named Frame = refl
 eventOf-named Check = refl

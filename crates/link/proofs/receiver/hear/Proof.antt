@@ -7,16 +7,17 @@ use native.Mathlib.Omega.{arith}
 use borrow.Author.Needs.{needs}
 use lib.ListN.{length, take, getD, length-map}
 use lib.Seq.{length-take-le}
-use Rattle.checks.specs.declared.kind.Check.{Check}
 use Rattle.wire_spec.specs.Limits.{mostContent}
 use Rattle.link_spec.specs.declared.event.Verdict.{Verdict}
 use Rattle.link_spec.specs.declared.receiver.Turn.{Turn}
 use Rattle.link_spec.specs.declared.receiver.Receiver.{Receiver}
 use Rattle.link_spec.specs.Events.{verdict}
+use Rattle.link_spec.specs.Station.{checkOn}
 use Rattle.link_spec.specs.Turning.{turn}
 use Rattle.link_spec.specs.Receiving.{receiverOf, outside, moved, outcome, saidOf, heard}
 use Rattle.link_spec.proofs.Laws.Turning.{Sound, turn-sound}
 use Rattle.link_spec.proofs.Laws.Receiving.{Going, runs-out, next-byte, breaks-off}
+use Rattle.link_spec.proofs.Laws.Unique.{same-move, same-ruling}
 use Rattle.link.specs.declared.receiver.Found.{Found}
 use Rattle.link.proofs.receiver.hear.Statement.{statement}
 use Rattle.link.proofs.receiver.hear.Tie as tie
@@ -59,7 +60,7 @@ loop-less c = omega arith
 turn-is : (d : tie.After-at-byte Inv-loop μ-loop) {t : Turn} → d .at-byte .result ≡ t → let l = d .before .before .before in
     let a = l .before .before .before .args in
     t ≡ turn (a .receiver .station) (l .loop .phase) (l .loop .count) (getD (a .piece .now) (l .loop .taken) 0)
-turn-is d found = sym found ∙ d .at-byte .ensures
+turn-is d found = sym found ∙ same-move (d .at-byte .ensures) refl
 
 loop-again : tie.Need-loop-again Inv-loop μ-loop
 unfolding moved
@@ -119,9 +120,6 @@ loop-again-4 c =
 enum-told-4 : tie.Need-enum-told-4 Inv-loop μ-loop
 enum-told-4 c = search needs
 
-check-on-requires : tie.Need-check-on-requires Inv-loop μ-loop
-check-on-requires c κs = search needs
-
 array-share-prefix-content : tie.Need-array-share-prefix-content Inv-loop μ-loop
 array-share-prefix-content c = omega arith
 
@@ -149,11 +147,12 @@ returns-2 c =
     let l = d .before .before .before in
     let on = saidOf (outside (l .before .before .before .args .receiver .station) (l .loop .content)) in
     let n = l .loop .taken + 1 in
+    let told = verdict (checkOn (l .before .before .before .args .receiver .station)) (take (l .loop .count) (l .loop .content)) in
     c .heard-with2 .ensures
     ∙ ap (λ (r : Receiver). saidOf r (m .match .found .verdict) (m .match .found .taken)) (c .before .outside .ensures)
     ∙ ⊎-elim
-    (λ w. ap (λ (f : Found). on (f .verdict) (f .taken)) (w .5)
-    ∙ ap (λ (v : Verdict). on v n) (w .4 .ensures ∙ ap (λ (k : Check). verdict k (take (l .loop .count) (l .loop .content))) (w .2 .ensures))
+    (λ w. ap (λ (f : Found). on (f .verdict) (f .taken)) (w .4)
+    ∙ ap (λ (v : Verdict). on v n) (same-ruling {r = w .3 .result} {s = told} (w .3 .ensures) refl)
     ∙ breaks-off (l .loop .inv) (omega arith) (turn-is d (w .1 .given .1)) refl)
     (λ w. ap (λ (f : Found). on (f .verdict) (f .taken)) (w .3)
     ∙ breaks-off (l .loop .inv) (omega arith) (turn-is d (w .1 .given .1)) refl)
@@ -186,7 +185,6 @@ hear-spec =
     loop-less-4
     loop-again-4
     enum-told-4
-    check-on-requires
     array-share-prefix-content
     slice-aggregate-at-stop
     at-stop-requires

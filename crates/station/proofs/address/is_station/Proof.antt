@@ -1,10 +1,10 @@
--- `station::is_station`: of a byte its two tests, not 7F and at most FC, are those of `isStation`, which names the addresses that a station
+-- `address::is_station`: of a byte its two tests, not 7F and at most FC, are those of `isStation`, which names the addresses that a station
 -- may have.
 -- Assumes nothing.
 use borrow.Author.Tests.{ne-eqb}
 use Rattle.link_spec.proofs.Laws.Address.{station-is}
-use Rattle.link.proofs.station.is_station.Statement.{statement}
-use Rattle.link.proofs.station.is_station.Tie as tie
+use Rattle.station.proofs.address.is_station.Statement.{statement}
+use Rattle.station.proofs.address.is_station.Tie as tie
 
 returns : tie.Need-returns
 returns c = simp (c .if1 .taken)

@@ -2,8 +2,8 @@
 -- Assumes nothing.
 use borrow.Author.Tests.{lt-ltb, le-ltb}
 use Rattle.link_spec.specs.Turning.{kept}
-use Rattle.link.proofs.rules.kept.Statement.{statement}
-use Rattle.link.proofs.rules.kept.Tie as tie
+use Rattle.station.proofs.rules.kept.Statement.{statement}
+use Rattle.station.proofs.rules.kept.Tie as tie
 
 returns : tie.Need-returns
 unfolding kept

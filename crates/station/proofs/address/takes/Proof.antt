@@ -1,9 +1,9 @@
--- `station::takes`: the tests that led to each `return` are those of `takes`: the master's own address first, then the reader's.
+-- `address::takes`: the tests that led to each `return` are those of `takes`: the master's own address first, then the reader's.
 -- Assumes nothing.
 use borrow.Author.Tests.{eq-eqb, ne-eqb}
 use Rattle.link_spec.specs.Address.{takes}
-use Rattle.link.proofs.station.takes.Statement.{statement}
-use Rattle.link.proofs.station.takes.Tie as tie
+use Rattle.station.proofs.address.takes.Statement.{statement}
+use Rattle.station.proofs.address.takes.Tie as tie
 
 returns : tie.Need-returns
 unfolding takes

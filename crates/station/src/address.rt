@@ -1,15 +1,14 @@
-// The check of a station's frames, and the addresses that a station has and takes.
-use checks::Check;
+// The addresses that a station has and takes.
 use link_spec::BROADCAST;
 use link_spec::LAST_ADDRESS;
 use link_spec::MASTER;
 use link_spec::Station;
 ghost use mathlib.Core.Path.{_≡_};
 ghost use Rattle.link_spec.specs.Address.{isStation, takes as takesOf};
-ghost use Rattle.link_spec.specs.Station.{checkOn, hasAddress};
+ghost use Rattle.link_spec.specs.Station.{hasAddress};
 
 // Whether a station may have this address.
-pub(crate) fn is_station(address: u8) -> bool
+fn is_station(address: u8) -> bool
     ensures { λ r. ⌜ r ≡ isStation address ⌝ }
 {
     if address == BROADCAST {
@@ -31,18 +30,8 @@ pub(crate) fn takes(own: u8, address: u8) -> bool
     address == BROADCAST
 }
 
-// The check of the frames that a station hears.
-pub(crate) fn check_on(station: Station) -> Check
-    ensures { λ r. ⌜ r ≡ checkOn station ⌝ }
-{
-    match station {
-        Station::Point => Check::Fcs,
-        Station::Addressed(_) => Check::Sum,
-    }
-}
-
 // Whether a station may have its address; on the point line it has none.
-pub(crate) fn has_address(station: Station) -> bool
+pub fn has_address(station: Station) -> bool
     ensures { λ r. ⌜ r ≡ hasAddress station ⌝ }
 {
     match station {

@@ -1,5 +1,5 @@
-// The receiver's rules for one byte: what it means, by where the receiver is, and which event a stop byte tells.
-use crate::station::takes;
+// The rules for one byte: what it means, by where the receiver is, and which event a stop byte tells.
+use crate::address::takes;
 use checks::Check;
 use checks::check_length;
 use checks::is_right;
@@ -16,11 +16,13 @@ use wire::START;
 use wire::STOP;
 ghost use mathlib.Core.Path.{_≡_};
 ghost use Rattle.link_spec.specs.Events.{verdict};
-ghost use Rattle.link_spec.specs.Turning.{turn, inside as insideOf, plain as plainOf, partner as partnerOf, kept as keptOf};
+ghost use Rattle.link_spec.specs.Station.{checkOn};
+ghost use Rattle.link_spec.specs.Moves.{moveOf, moveAt, rulingOf, rulingAt};
+ghost use Rattle.link_spec.specs.Turning.{inside as insideOf, plain as plainOf, partner as partnerOf, kept as keptOf};
 
 // FD before all else; then by where the receiver is.
-pub(crate) fn at_byte(station: Station, phase: Phase, count: usize, byte: u8) -> Turn
-    ensures { λ r. ⌜ r ≡ turn station phase count byte ⌝ }
+pub fn at_byte(station: Station, phase: Phase, count: usize, byte: u8) -> Turn
+    ensures { λ r. ⌜ moveOf r ≡ moveAt station phase count byte ⌝ }
 {
     if byte == START {
         return Turn::Begin;
@@ -84,7 +86,24 @@ fn kept(count: usize, byte: u8) -> Turn
 }
 
 // What the stop byte after this content tells.
-pub(crate) fn at_stop(check: Check, content: &[u8]) -> Verdict
+pub fn at_stop(station: Station, content: &[u8]) -> Verdict
+    ensures { λ r. ⌜ rulingOf r ≡ rulingAt station (now (content .entry)) ⌝ }
+{
+    judged(check_on(station), content)
+}
+
+// The check of the frames that a station hears.
+fn check_on(station: Station) -> Check
+    ensures { λ r. ⌜ r ≡ checkOn station ⌝ }
+{
+    match station {
+        Station::Point => Check::Fcs,
+        Station::Addressed(_) => Check::Sum,
+    }
+}
+
+// The same, of frames with this check.
+fn judged(check: Check, content: &[u8]) -> Verdict
     ensures { λ r. ⌜ r ≡ verdict check (now (content .entry)) ⌝ }
 {
     if content.len() < LEAST_CONTENT {

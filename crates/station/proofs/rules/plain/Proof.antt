@@ -3,8 +3,8 @@
 use borrow.Author.Tests.{eq-eqb, ne-eqb}
 use borrow.Author.Needs.{needs}
 use Rattle.link_spec.specs.Turning.{plain}
-use Rattle.link.proofs.rules.plain.Statement.{statement}
-use Rattle.link.proofs.rules.plain.Tie as tie
+use Rattle.station.proofs.rules.plain.Statement.{statement}
+use Rattle.station.proofs.rules.plain.Tie as tie
 
 returns : tie.Need-returns
 unfolding plain

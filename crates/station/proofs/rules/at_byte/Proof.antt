@@ -1,10 +1,12 @@
 -- `rules::at_byte`: the tests that led to each `return` are those of `turn` and `within`: FD first, then where the receiver is.
 -- Assumes nothing.
+use mathlib.Core.Path.{ap}
 use borrow.Author.Tests.{eq-eqb, ne-eqb}
 use borrow.Author.Needs.{needs}
 use Rattle.link_spec.specs.Turning.{within, turn}
-use Rattle.link.proofs.rules.at_byte.Statement.{statement}
-use Rattle.link.proofs.rules.at_byte.Tie as tie
+use Rattle.link_spec.specs.Moves.{moveOf}
+use Rattle.station.proofs.rules.at_byte.Statement.{statement}
+use Rattle.station.proofs.rules.at_byte.Tie as tie
 
 returns : tie.Need-returns
 unfolding turn
@@ -31,11 +33,11 @@ returns-2 c = simp (ne-eqb _ _ (c .before .before .if1 .left), c .enum-told .giv
 
 returns-3 : tie.Need-returns-3
 unfolding within turn
-returns-3 c = simp (ne-eqb _ _ (c .before .before .before .if1 .left), c .before .enum-told2 .given .1) (c .inside .ensures)
+returns-3 c = simp (ne-eqb _ _ (c .before .before .before .if1 .left), c .before .enum-told2 .given .1) (ap moveOf (c .inside .ensures))
 
 returns-4 : tie.Need-returns-4
 unfolding within turn
-returns-4 c = simp (ne-eqb _ _ (c .before .before .before .if1 .left), c .before .enum-told3 .given .1) (c .partner .ensures)
+returns-4 c = simp (ne-eqb _ _ (c .before .before .before .if1 .left), c .before .enum-told3 .given .1) (ap moveOf (c .partner .ensures))
 
 pub at-byte-spec : {M : Type 1} → statement M
 at-byte-spec =

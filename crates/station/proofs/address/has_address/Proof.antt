@@ -1,8 +1,8 @@
--- `station::has_address`: each arm answers the case of `hasAddress` that its station names.
+-- `address::has_address`: each arm answers the case of `hasAddress` that its station names.
 -- Assumes nothing.
 use borrow.Author.Needs.{needs}
-use Rattle.link.proofs.station.has_address.Statement.{statement}
-use Rattle.link.proofs.station.has_address.Tie as tie
+use Rattle.station.proofs.address.has_address.Statement.{statement}
+use Rattle.station.proofs.address.has_address.Tie as tie
 
 enum-told : tie.Need-enum-told
 enum-told c = search needs

@@ -5,8 +5,8 @@ use native.Mathlib.Omega.{arith}
 use borrow.Author.Tests.{eq-eqb, ne-eqb}
 use borrow.Author.Needs.{needs}
 use Rattle.link_spec.specs.Turning.{contentByte, inside}
-use Rattle.link.proofs.rules.inside.Statement.{statement}
-use Rattle.link.proofs.rules.inside.Tie as tie
+use Rattle.station.proofs.rules.inside.Statement.{statement}
+use Rattle.station.proofs.rules.inside.Tie as tie
 
 returns : tie.Need-returns
 unfolding inside

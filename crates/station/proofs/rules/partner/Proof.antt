@@ -3,8 +3,8 @@
 use borrow.Author.Tests.{le-leb, lt-leb}
 use borrow.Author.Needs.{needs}
 use Rattle.link_spec.specs.Turning.{partner}
-use Rattle.link.proofs.rules.partner.Statement.{statement}
-use Rattle.link.proofs.rules.partner.Tie as tie
+use Rattle.station.proofs.rules.partner.Statement.{statement}
+use Rattle.station.proofs.rules.partner.Tie as tie
 
 sub-kept : tie.Need-sub-kept
 sub-kept c = search needs

@@ -1,0 +1,23 @@
+-- `rules::at_stop`: it is judged by the check of the station's line.
+-- Assumes nothing.
+use mathlib.Core.Path.{ap, _∙_}
+use borrow.Author.Needs.{needs}
+use Rattle.checks.specs.declared.kind.Check.{Check}
+use Rattle.link_spec.specs.Events.{verdict}
+use Rattle.link_spec.specs.Moves.{rulingOf}
+use Rattle.station.proofs.rules.at_stop.Statement.{statement}
+use Rattle.station.proofs.rules.at_stop.Tie as tie
+
+check-on-requires : tie.Need-check-on-requires
+check-on-requires c κs = search needs
+
+judged-requires : tie.Need-judged-requires
+judged-requires c κs = search needs
+
+returns : tie.Need-returns
+returns c =
+    ap rulingOf
+    (c .judged .ensures ∙ ap (λ (k : Check). verdict k (c .before .before .before .args .content .now)) (c .before .check-on .ensures))
+
+pub at-stop-spec : {M : Type 1} → statement M
+at-stop-spec = tie.close (tie.spec check-on-requires judged-requires returns)
