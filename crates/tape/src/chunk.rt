@@ -1,10 +1,10 @@
 // A tape's listing, chunk by chunk.
-use crate::kind::after_kind;
-use crate::receivers::receiver_on;
-use crate::receivers::with_receiver;
 use crate::run::run;
-use crate::state::is_bad;
 use ground::Refusal;
+use reel::after_kind;
+use reel::is_bad_tape;
+use reel::receiver_on;
+use reel::with_receiver;
 use tape_spec::LEAST_ROOM;
 use tape_spec::Listed;
 use tape_spec::Next;
@@ -27,7 +27,7 @@ const MOST_RUN: usize = 128;
 pub fn list(tape: Tape, chunk: &[u8], out: &mut [u8]) -> Listed
     ensures { λ r. ⌜ listedOut r (now (out .exit)) ≡ listed tape (now (chunk .entry)) (now (out .entry)) ⌝ }
 {
-    if is_bad(tape) {
+    if is_bad_tape(tape) {
         return refused(Refusal::BadState, tape);
     }
     if out.len() < LEAST_ROOM {

@@ -1,7 +1,7 @@
 // Records in a row on one line, heard together.
-use crate::kind::kind_of;
 use link::Receiver;
 use link::receive;
+use reel::kind_of;
 use rows::put_heard;
 use tape_spec::LEAST_ROOM;
 use tape_spec::Line;

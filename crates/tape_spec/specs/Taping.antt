@@ -1,5 +1,5 @@
 -- What the calls that list a tape answer and leave in the buffer lent to them, for every input.
--- 01, The listing program, and Refusal numbers, rows 1 and 4 in their sense (docs/DECISIONS.md, rows and tape). Assumes nothing.
+-- 01, The listing program, and Refusal numbers, rows 1 and 4 in their sense (docs/DECISIONS.md, rows, reel and tape). Assumes nothing.
 use Prim.Native.Nat.{ℕ, _+_, _-_}
 use mathlib.Core.Bool.{Bool, true, false, cond, _&&_, _||_}
 use mathlib.Core.List.{List, [], _∷_, _++_}

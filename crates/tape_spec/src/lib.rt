@@ -1,5 +1,5 @@
 // A tape under way, as types alone: the two lines, what the tape's next byte is, the receivers of both lines, and what a call on a chunk answers.
-// What is so is in specs/; the crates `rows` and `tape` do it.
+// What is so is in specs/; the crates `reel`, `rows` and `tape` do it.
 mod tape;
 
 pub use tape::Ending;

@@ -10,8 +10,8 @@ use Rattle.tape.proofs.Laws.Chunks.{over}
 use Rattle.tape.proofs.chunk.list.Statement.{statement}
 use Rattle.tape.proofs.chunk.list.Tie as tie
 
-is-bad-requires : tie.Need-is-bad-requires
-is-bad-requires c κs = search needs
+is-bad-tape-requires : tie.Need-is-bad-tape-requires
+is-bad-tape-requires c κs = search needs
 
 refused-requires : tie.Need-refused-requires
 refused-requires c κs = search needs
@@ -20,11 +20,11 @@ returns : tie.Need-returns
 returns c =
     let a = c .before .before .before .before .before .args in
     ap (over (a .out .now)) (c .refused .ensures)
-    ∙ sym (refuses-state (a .tape) (a .chunk .now) (a .out .now) (sym (c .before .before .is-bad .ensures) ∙ c .before .if1 .taken))
+    ∙ sym (refuses-state (a .tape) (a .chunk .now) (a .out .now) (sym (c .before .before .is-bad-tape .ensures) ∙ c .before .if1 .taken))
 
 -- no row names a tape that is not bad
 fine : (c : tie.Else1) → badTape (c .before .before .before .before .args .tape) ≡ false
-fine c = sym (c .before .is-bad .ensures) ∙ c .if1 .left
+fine c = sym (c .before .is-bad-tape .ensures) ∙ c .if1 .left
 
 refused-requires-2 : tie.Need-refused-requires-2
 refused-requires-2 c κs = search needs
@@ -51,7 +51,7 @@ pub list-spec : {M : Type 1} → statement M
 list-spec =
     tie.close
     (tie.spec
-    is-bad-requires
+    is-bad-tape-requires
     refused-requires
     returns
     refused-requires-2

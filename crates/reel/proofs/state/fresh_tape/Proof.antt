@@ -4,8 +4,8 @@ use mathlib.Core.Path.{ap}
 use borrow.Author.Needs.{needs}
 use Rattle.tape_spec.specs.declared.tape.Next.the-variants.{Kind}
 use Rattle.tape_spec.specs.Taping.{tapeOf}
-use Rattle.tape.proofs.state.fresh_tape.Statement.{statement}
-use Rattle.tape.proofs.state.fresh_tape.Tie as tie
+use Rattle.reel.proofs.state.fresh_tape.Statement.{statement}
+use Rattle.reel.proofs.state.fresh_tape.Tie as tie
 
 fresh-receivers-requires : tie.Need-fresh-receivers-requires
 fresh-receivers-requires c κs = search needs

@@ -5,8 +5,8 @@ use borrow.Author.Needs.{needs}
 use Rattle.link_spec.specs.declared.receiver.Receiver.{Receiver}
 use Rattle.link_spec.specs.Receiving.{Made}
 use Rattle.link_spec.proofs.Laws.Fresh.{receiver-made}
-use Rattle.tape.proofs.receivers.fresh_receivers.Statement.{statement}
-use Rattle.tape.proofs.receivers.fresh_receivers.Tie as tie
+use Rattle.reel.proofs.receivers.fresh_receivers.Statement.{statement}
+use Rattle.reel.proofs.receivers.fresh_receivers.Tie as tie
 
 fresh-addressed-requires : tie.Need-fresh-addressed-requires
 fresh-addressed-requires c κs = search needs

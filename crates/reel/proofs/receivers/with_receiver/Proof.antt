@@ -1,8 +1,8 @@
 -- `receivers::with_receiver`: each arm builds the case of `withReceiver` that its line names.
 -- Assumes nothing.
 use borrow.Author.Needs.{needs}
-use Rattle.tape.proofs.receivers.with_receiver.Statement.{statement}
-use Rattle.tape.proofs.receivers.with_receiver.Tie as tie
+use Rattle.reel.proofs.receivers.with_receiver.Statement.{statement}
+use Rattle.reel.proofs.receivers.with_receiver.Tie as tie
 
 enum-told : tie.Need-enum-told
 enum-told c = search needs

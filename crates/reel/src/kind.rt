@@ -4,14 +4,14 @@ use tape_spec::MOST_RECORDS;
 use tape_spec::Next;
 ghost use mathlib.Core.Path.{_≡_};
 ghost use Rattle.tape_spec.specs.Whole.{kindOf};
-ghost use Rattle.tape_spec.specs.Taping.{afterKind};
+ghost use Rattle.tape_spec.specs.Coming.{coming, comingAfter};
 
 const POINT: u8 = 0x01;
 
 const ADDRESSED: u8 = 0x02;
 
 // The kind of a line's records.
-pub(crate) fn kind_of(line: Line) -> u8
+pub fn kind_of(line: Line) -> u8
     ensures { λ r. ⌜ r ≡ kindOf line ⌝ }
 {
     match line {
@@ -21,8 +21,8 @@ pub(crate) fn kind_of(line: Line) -> u8
 }
 
 // What follows a kind byte that comes after this many whole records.
-pub(crate) fn after_kind(records: u32, kind: u8) -> Next
-    ensures { λ r. ⌜ r ≡ afterKind records kind ⌝ }
+pub fn after_kind(records: u32, kind: u8) -> Next
+    ensures { λ r. ⌜ coming r ≡ comingAfter records kind ⌝ }
 {
     if records == MOST_RECORDS {
         return Next::Full;

@@ -3,8 +3,8 @@
 use borrow.Author.Tests.{eq-eqb, ne-eqb}
 use Rattle.tape_spec.specs.Whole.{kind}
 use Rattle.tape_spec.specs.Taping.{afterKind}
-use Rattle.tape.proofs.kind.after_kind.Statement.{statement}
-use Rattle.tape.proofs.kind.after_kind.Tie as tie
+use Rattle.reel.proofs.kind.after_kind.Statement.{statement}
+use Rattle.reel.proofs.kind.after_kind.Tie as tie
 
 returns : tie.Need-returns
 unfolding afterKind

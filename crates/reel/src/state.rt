@@ -19,7 +19,7 @@ pub fn fresh_tape() -> Tape
 }
 
 // Whether a call on a chunk refuses it (BadState): a receiver that the link refuses, or a body after the last permitted record.
-pub(crate) fn is_bad(tape: Tape) -> bool
+pub fn is_bad_tape(tape: Tape) -> bool
     ensures { λ r. ⌜ r ≡ badTape tape ⌝ }
 {
     let receivers = tape.receivers;

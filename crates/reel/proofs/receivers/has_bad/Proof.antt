@@ -2,8 +2,8 @@
 -- Assumes nothing.
 use mathlib.Core.Path.{sym, _∙_}
 use borrow.Author.Needs.{needs}
-use Rattle.tape.proofs.receivers.has_bad.Statement.{statement}
-use Rattle.tape.proofs.receivers.has_bad.Tie as tie
+use Rattle.reel.proofs.receivers.has_bad.Statement.{statement}
+use Rattle.reel.proofs.receivers.has_bad.Tie as tie
 
 is-bad-state-requires : tie.Need-is-bad-state-requires
 is-bad-state-requires c κs = search needs

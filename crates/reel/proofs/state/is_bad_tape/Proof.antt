@@ -1,10 +1,10 @@
--- `state::is_bad`: the tests that led to each `return` are those of `badTape`: the receivers first, then a body after the last permitted
+-- `state::is_bad_tape`: the tests that led to each `return` are those of `badTape`: the receivers first, then a body after the last permitted
 -- record.
 -- Assumes nothing.
 use mathlib.Core.Path.{sym, _∙_}
 use borrow.Author.Needs.{needs}
-use Rattle.tape.proofs.state.is_bad.Statement.{statement}
-use Rattle.tape.proofs.state.is_bad.Tie as tie
+use Rattle.reel.proofs.state.is_bad_tape.Statement.{statement}
+use Rattle.reel.proofs.state.is_bad_tape.Tie as tie
 
 has-bad-requires : tie.Need-has-bad-requires
 has-bad-requires c κs = search needs
@@ -44,8 +44,8 @@ returns-5 : tie.Need-returns-5
 returns-5 c =
     rw (sym (c .before .before .before .has-bad .ensures) ∙ c .before .before .if1 .left, c .enum-told3 .given .1)
 
-pub is-bad-spec : {M : Type 1} → statement M
-is-bad-spec =
+pub is-bad-tape-spec : {M : Type 1} → statement M
+is-bad-tape-spec =
     tie.close
     (tie.spec
     has-bad-requires

@@ -22,7 +22,7 @@ pub(crate) fn fresh_receivers() -> Receivers
 }
 
 // The receiver of a line.
-pub(crate) fn receiver_on(receivers: Receivers, line: Line) -> Receiver
+pub fn receiver_on(receivers: Receivers, line: Line) -> Receiver
     ensures { λ r. ⌜ r ≡ receiverOn line receivers ⌝ }
 {
     match line {
@@ -32,7 +32,7 @@ pub(crate) fn receiver_on(receivers: Receivers, line: Line) -> Receiver
 }
 
 // With another receiver on a line.
-pub(crate) fn with_receiver(receivers: Receivers, line: Line, receiver: Receiver) -> Receivers
+pub fn with_receiver(receivers: Receivers, line: Line, receiver: Receiver) -> Receivers
     ensures { λ r. ⌜ r ≡ withReceiver line receiver receivers ⌝ }
 {
     match line {
