@@ -24,9 +24,11 @@ use Rattle.link_spec.specs.Hearing.{Told, toldAt, IsFresh, Hearing}
 use Rattle.link_spec.specs.Listing.{Lists}
 use Rattle.request_spec.specs.declared.parameter.Parameter.{Parameter}
 use Rattle.request_spec.specs.declared.command.Acceptance.the-variants.{Accepted}
+use Rattle.request_spec.specs.declared.command.Command.{Command}
 use Rattle.request_spec.specs.declared.command.Command.the-variants.{Write, Read}
 use Rattle.request_spec.specs.Limits.{headerLength}
-use Rattle.request_spec.specs.Replies.{DATA, identifierOf, commandOf, dataOf}
+use Rattle.request_spec.specs.Acceptance.{Accepts}
+use Rattle.request_spec.specs.Replies.{NACK, DATA, sign, identifierOf, commandOf, dataOf}
 use Rattle.request_spec.specs.Requesting.{requestWritten}
 use Rattle.reader_spec.specs.declared.reader.Asking.the-variants.{Right}
 use Rattle.reader_spec.specs.declared.reader.Reader.{Reader}
@@ -47,7 +49,7 @@ use Rattle.tape_spec.specs.Frames.{Shows}
 use Rattle.tape_spec.specs.Taping.{listedOut, listed}
 use Rattle.tape_spec.specs.Sessions.{Listing}
 use Rattle.demands.specs.Refusing.{RefusesByTable, RefusedChangesNothing}
-use Rattle.demands.specs.Exchanging.{WellAnswered}
+use Rattle.demands.specs.Exchanging.{HeardAndRead, WellAnswered}
 use Rattle.demands.specs.Going.{ReachedReceiver, TakesPiece, ReachedTape, TakesChunk}
 
 -- 1. Bad input gets a numbered refusal; a refused call changes no state and no byte of a lent buffer. (That every call ends and takes every input
@@ -82,6 +84,10 @@ pub record Demand2 : Type 0 where
       → length (i .header) ≡ headerLength → (c : Call alone h s held) × (c .input ≡ i) × (c .lent ≡ lent)
   pub powers : {alone : Bool} {s : Reader} {held : List ℕ} {h : History} → ReaderSession alone s held h → (r : Powered)
       → powering r ≡ poweredOn (stateOf s) → number (r .refusal) ≡ 0
+  -- a NACK is heard wherever it stands, and read as what it is by a master whose request was acceptable
+  pub nackRead : (n identifier code : ℕ) («data» before rest : List ℕ) {command : Command} {m : Receiver} {all : List Told} → 1 ≤ n → n ≤ 6
+      → Accepts code «data» command → IsFresh Point m → let bytes = replyImage identifier sign (NACK n) in
+      Hearing (before ++ (bytes ++ rest)) m 0 all → HeardAndRead identifier code «data» before all bytes (NACK n)
   -- what was written to a parameter is what a later read sends, until another write of it
   pub values : {alone : Bool} {s t : Reader} {held kept : List ℕ} {h k : History} {p : Parameter} → ReaderSession alone s held h
       → (w : Call alone h s held) → Done w → isExecuted h (w .input) ≡ true → asksFor (w .input) ≡ Accepted (Write p)

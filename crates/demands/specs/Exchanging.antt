@@ -13,9 +13,8 @@ use Rattle.link_spec.specs.Limits.{mostData}
 use Rattle.link_spec.specs.Events.{FRAME}
 use Rattle.link_spec.specs.Hearing.{Told, toldAt, IsFresh, Hearing}
 use Rattle.request_spec.specs.declared.command.Command.{Command}
-use Rattle.request_spec.specs.declared.command.Acceptance.the-variants.{Accepted, Faulty}
-use Rattle.request_spec.specs.declared.command.Fault.{Fault}
-use Rattle.request_spec.specs.Acceptance.{nackOf, Accepts}
+use Rattle.request_spec.specs.declared.command.Acceptance.the-variants.{Accepted}
+use Rattle.request_spec.specs.Acceptance.{Accepts}
 use Rattle.request_spec.specs.Replies.{Reply, NACK, sign, identifierOf, frontOf}
 use Rattle.request_spec.specs.Reading.{hasRead, replyRead}
 use Rattle.reader_spec.specs.declared.reader.Asking.the-variants.{Right}
@@ -24,7 +23,7 @@ use Rattle.reader_spec.specs.State.{stateOf}
 use Rattle.reader_spec.specs.Asking.{asking}
 use Rattle.reader_spec.specs.Replies.{IsAnswer, replyImage, replyTo}
 use Rattle.reader_spec.specs.Answering.{LentWell, Unfit}
-use Rattle.reader_spec.specs.Sessions.{History, repeats, bytesOf, repeatsLast, asksFor, judgedHistory, toSend, isRepeat, Call, Done, bytesSent, ReaderSession}
+use Rattle.reader_spec.specs.Sessions.{History, repeats, bytesOf, repeatsLast, asksFor, judgedHistory, toSend, isRepeat, isExecuted, Call, Done, bytesSent, ReaderSession}
 use Rattle.reader_spec.specs.Promises.{Recalls}
 
 module _ {alone : Bool} {h : History} {s : Reader} {held : List ℕ} (c : Call alone h s held) where
@@ -35,25 +34,25 @@ module _ {alone : Bool} {h : History} {s : Reader} {held : List ℕ} (c : Call a
     pub well : LentWell (c .input) (c .lent)
     pub new : repeats (h .last) identifier code ≡ false
 
-  -- It executed the request: it sends the reply that the table has for the values written so far, and the session goes on with what the
-  -- command did, and with it as the last one executed.
-  pub record RequestExecuted : Type 0 where
-    pub command : Command
+  -- It executed the request as this command: it sends the reply that the table has for the values written so far, and the session goes on with
+  -- what the command did, and with it as the last one executed.
+  pub record RequestExecuted (command : Command) : Type 0 where
     pub asked : asksFor (c .input) ≡ Accepted command
     pub done : Done c
     pub sends : bytesSent c ≡ bytesOf (c .input .content) (some (replyTo (h .value) command (c .input .header) (c .input .antenna)))
     pub reply : IsAnswer (replyTo (h .value) command (c .input .header) (c .input .antenna))
     pub goesOn : ReaderSession alone (c .answer .reader) (c .left .store) (judgedHistory h (c .input) (Accepted command))
 
-  -- It answered the request with NACK 2, where its code is unknown, or NACK 3, where its data is not acceptable: it sends that, and neither
-  -- the reader's state nor the store changed.
-  pub record RequestNacked : Type 0 where
-    pub fault : Fault
-    pub asked : asksFor (c .input) ≡ Faulty fault
-    pub done : Done c
-    pub sends : bytesSent c ≡ replyImage (identifierOf (c .input .content)) sign (NACK (nackOf fault))
+  -- neither the reader's state nor the store changed
+  pub record Unchanged : Type 0 where
     pub state : stateOf (c .answer .reader) ≡ stateOf s
     pub kept : c .left .store ≡ c .lent .store
+
+  -- it answered the request with the NACK of this number, and nothing else
+  pub record RequestNacked (n : ℕ) : Type 0 where
+    pub done : Done c
+    pub sends : bytesSent c ≡ replyImage (identifierOf (c .input .content)) sign (NACK n)
+    pub unchanged : Unchanged
 
 -- a reply sent in these bytes is heard, and the master that made this request reads in it what it is
 pub record HeardAndRead (identifier code : ℕ) («data» before : List ℕ) (all : List Told) (bytes : List ℕ) (reply : Reply) : Type 0 where
@@ -68,14 +67,23 @@ pub record WellAnswered {alone : Bool} {h : History} {s : Reader} {held : List �
   pub recalls : Done c → asking (c .input .event) ≡ Right → repeatsLast h (c .input) ≡ true → Recalls c
   -- with good buffers and a content that fits it is not refused
   pub fine : LentWell (c .input) (c .lent) → (Unfit (c .input) → ⊥) → Done c
-  -- a request of the paper's table is executed; any other, if a frame can carry it, gets NACK 2 or 3
-  pub executes : (identifier code : ℕ) («data» : List ℕ) {command : Command} → Asks c identifier code «data» → Accepts code «data» command → RequestExecuted c
-  pub nacks : (identifier code : ℕ) («data» : List ℕ) → Asks c identifier code «data» → ((command : Command) → Accepts code «data» command → ⊥)
+  -- a request of the paper's table is executed
+  pub executes : (identifier code : ℕ) («data» : List ℕ) {command : Command} → Asks c identifier code «data» → Accepts code «data» command
+      → RequestExecuted c command
+  -- any other, if a frame can carry it, gets NACK 2 where the table has no row with its code, and NACK 3 where it has none with its data
+  pub nacksCode : (identifier code : ℕ) («data» : List ℕ) → Asks c identifier code «data»
+      → ((other : List ℕ) (command : Command) → Accepts code other command → ⊥)
       → length «data» ≤ mostData
-      → RequestNacked c
+      → RequestNacked c 2
+  pub nacksData : (identifier code : ℕ) («data» other : List ℕ) {some : Command} → Asks c identifier code «data» → Accepts code other some
+      → ((command : Command) → Accepts code «data» command → ⊥)
+      → length «data» ≤ mostData
+      → RequestNacked c 3
+  -- a call that executes nothing, as at a CHECK or where there is no answer, changes neither state nor store
+  pub keeps : (Done c → isExecuted h (c .input) ≡ false) → Unchanged c
   -- the reply to a request that is executed is heard wherever it stands, and read by the master as what it is
-  pub read : (identifier code : ℕ) («data» before rest : List ℕ) {m : Receiver} {all : List Told} → Asks c identifier code «data»
-      → (x : RequestExecuted c)
+  pub read : (identifier code : ℕ) («data» before rest : List ℕ) {command : Command} {m : Receiver} {all : List Told} → Asks c identifier code «data»
+      → RequestExecuted c command
       → IsFresh Point m
       → Hearing (before ++ (bytesSent c ++ rest)) m 0 all
-      → HeardAndRead identifier code «data» before all (bytesSent c) (replyTo (h .value) (x .command) (c .input .header) (c .input .antenna))
+      → HeardAndRead identifier code «data» before all (bytesSent c) (replyTo (h .value) command (c .input .header) (c .input .antenna))

@@ -12,8 +12,8 @@ use Rattle.ground.specs.Laying.{unplaced, placed, put}
 use Rattle.checks.specs.declared.kind.Check.{Check}
 use Rattle.checks.specs.Check.{checkLength, withCheck}
 use Rattle.wire_spec.specs.Limits.{mostContent}
-use Rattle.wire_spec.specs.Image.{imageLength}
-use Rattle.wire_spec.specs.Writing.{After, notWritten, lengthAsked, imageWritten, frameWritten}
+use Rattle.wire_spec.specs.Image.{image, imageLength}
+use Rattle.wire_spec.specs.Writing.{After, notWritten, putting, lengthAsked, frameWritten}
 use Rattle.link_spec.specs.declared.receiver.Receiver.{Receiver}
 use Rattle.link_spec.specs.Writers.{pointWritten, addressedWritten, PointTable, AddressedTable}
 use Rattle.link_spec.specs.Events.{NONE}
@@ -32,15 +32,17 @@ pub record Decides {A : Type 0} (Table : A → Type 0) (answer : A) : Type 0 whe
   pub row : Table answer
   pub only : {other : A} → Table other → other ≡ answer
 
--- When, and only then: each answer is decided by the rows of the paper's table.
+-- When, and only then: each answer is decided by the rows of the paper's table; of calls that the table does not name, by the same numbers.
 pub record RefusesByTable : Type 0 where
   pub puts : (bytes out : List ℕ) (at : ℕ) → (length out - at < length bytes → put bytes out at ≡ unplaced NoRoom out at)
       × (length bytes ≤ length out - at → put bytes out at ≡ placed bytes out at)
   pub asksLength : (content : List ℕ) → (mostContent < length content → lengthAsked content ≡ refused TooLong)
       × (length content ≤ mostContent → lengthAsked content ≡ counted (imageLength content))
   pub frame : (check : Check) (head «data» out : List ℕ) → let n = length head + length «data» + checkLength check in
+      let content = withCheck check (head ++ «data») in
       (mostContent < n → frameWritten check head «data» out ≡ notWritten TooLong out)
-      × (n ≤ mostContent → frameWritten check head «data» out ≡ imageWritten (withCheck check (head ++ «data»)) out)
+      × (n ≤ mostContent → length out < length (image content) → frameWritten check head «data» out ≡ notWritten NoRoom out)
+      × (n ≤ mostContent → length (image content) ≤ length out → frameWritten check head «data» out ≡ putting content out)
   pub point : (identifier command : ℕ) («data» out : List ℕ)
       → Decides (PointTable identifier command «data» out) (pointWritten identifier command «data» out)
   pub addressed : (address identifier command : ℕ) («data» out : List ℕ)

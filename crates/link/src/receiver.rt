@@ -12,7 +12,7 @@ use link_spec::Verdict;
 use station::at_byte;
 use station::at_stop;
 use station::has_address;
-use wire::MOST_CONTENT;
+use wire_spec::MOST_CONTENT;
 ghost use mathlib.Core.Path.{_≡_};
 ghost use Prim.Native.Nat.{_≤_};
 ghost use Rattle.wire_spec.specs.Limits.{mostContent};

@@ -1,4 +1,4 @@
--- What the rules of a station answer, in the paper's words: what a byte makes a receiver do, and what a stop byte tells.
+-- What the rules of a station answer, in the paper's words: what a byte is to a receiver, and what a stop byte tells.
 -- 01, How the receiver moves. Assumes nothing.
 use Prim.Native.Nat.{ℕ}
 use mathlib.Core.List.{List}
@@ -11,21 +11,22 @@ use Rattle.link_spec.specs.Events.{Name, named, verdict}
 use Rattle.link_spec.specs.Station.{checkOn}
 use Rattle.link_spec.specs.Turning.{turn}
 
--- nothing, begin a frame, wait for the partner of an FF, end the frame, keep a content byte, or give the frame up and tell an event
+-- a byte is ignored, begins a frame, waits for its partner, is a content byte or the partner of one, ends the frame, or is where an event is told
 pub data Move : Type 0 where
-  REST BEGIN WAIT STOP : Move
-  KEEP : ℕ → Move
-  TELL : Name → Move
+  IGNORED BEGINS WAITS : Move
+  CONTENT : ℕ → Move
+  ENDS : Move
+  EVENT : Name → Move
 
 abbrev pub moveOf : Turn → Move
-moveOf Rest = REST
-moveOf Begin = BEGIN
-moveOf Wait = WAIT
-moveOf (Keep b) = KEEP b
-moveOf Stop = STOP
-moveOf (Tell event) = TELL (named event)
+moveOf Rest = IGNORED
+moveOf Begin = BEGINS
+moveOf Wait = WAITS
+moveOf (Keep b) = CONTENT b
+moveOf Stop = ENDS
+moveOf (Tell event) = EVENT (named event)
 
--- what a byte makes a receiver do that is here, with this many content bytes
+-- what a byte is to this station's receiver in this phase, after this many content bytes: `turn`, which the table of Rules holds against the paper
 abbrev pub moveAt : Station → Phase → ℕ → ℕ → Move
 moveAt station phase count b = moveOf (turn station phase count b)
 
@@ -37,6 +38,6 @@ pub record Ruling : Type 0 where
 abbrev pub rulingOf : Verdict → Ruling
 rulingOf v = record { event = named (v .event); length = v .length }
 
--- what a stop byte after this content tells
+-- what a stop byte after this content tells: `verdict`, which the table of Rules holds against the paper
 abbrev pub rulingAt : Station → List ℕ → Ruling
 rulingAt station content = rulingOf (verdict (checkOn station) content)

@@ -1,4 +1,4 @@
-// The receivers of both lines of a tape: fresh, one of them, and whether they are in a bad state.
+// The receivers of both lines of a tape: fresh, one of them, with another on a line, and whether one is in a bad state.
 use link::MASTER;
 use link::Receiver;
 use link::fresh_addressed;

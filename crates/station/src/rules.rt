@@ -9,18 +9,18 @@ use link_spec::Phase;
 use link_spec::Station;
 use link_spec::Turn;
 use link_spec::Verdict;
-use wire::ESCAPE;
-use wire::LAST_PARTNER;
-use wire::MOST_CONTENT;
-use wire::START;
-use wire::STOP;
+use wire_spec::ESCAPE;
+use wire_spec::LAST_PARTNER;
+use wire_spec::MOST_CONTENT;
+use wire_spec::START;
+use wire_spec::STOP;
 ghost use mathlib.Core.Path.{_≡_};
 ghost use Rattle.link_spec.specs.Events.{verdict};
 ghost use Rattle.link_spec.specs.Station.{checkOn};
 ghost use Rattle.link_spec.specs.Moves.{moveOf, moveAt, rulingOf, rulingAt};
 ghost use Rattle.link_spec.specs.Turning.{inside as insideOf, plain as plainOf, partner as partnerOf, kept as keptOf};
 
-// FD before all else; then by where the receiver is.
+// What a byte is to a receiver of this station, in this phase and after this many content bytes. FD goes before all else.
 pub fn at_byte(station: Station, phase: Phase, count: usize, byte: u8) -> Turn
     ensures { λ r. ⌜ moveOf r ≡ moveAt station phase count byte ⌝ }
 {
@@ -89,21 +89,11 @@ fn kept(count: usize, byte: u8) -> Turn
 pub fn at_stop(station: Station, content: &[u8]) -> Verdict
     ensures { λ r. ⌜ rulingOf r ≡ rulingAt station (now (content .entry)) ⌝ }
 {
-    judged(check_on(station), content)
-}
-
-// The check of the frames that a station hears.
-fn check_on(station: Station) -> Check
-    ensures { λ r. ⌜ r ≡ checkOn station ⌝ }
-{
-    match station {
-        Station::Point => Check::Fcs,
-        Station::Addressed(_) => Check::Sum,
-    }
+    by_check(check_on(station), content)
 }
 
 // The same, of frames with this check.
-fn judged(check: Check, content: &[u8]) -> Verdict
+fn by_check(check: Check, content: &[u8]) -> Verdict
     ensures { λ r. ⌜ r ≡ verdict check (now (content .entry)) ⌝ }
 {
     if content.len() < LEAST_CONTENT {
@@ -119,4 +109,14 @@ fn judged(check: Check, content: &[u8]) -> Verdict
         Event::Check
     };
     Verdict { event, length }
+}
+
+// The check of the frames that a station hears.
+fn check_on(station: Station) -> Check
+    ensures { λ r. ⌜ r ≡ checkOn station ⌝ }
+{
+    match station {
+        Station::Point => Check::Fcs,
+        Station::Addressed(_) => Check::Sum,
+    }
 }

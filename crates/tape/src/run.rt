@@ -12,7 +12,6 @@ ghost use Prim.Native.Nat.{_+_, _-_, _≤_, _<_};
 ghost use lib.ListN.{length, take};
 ghost use Rattle.link_spec.specs.Receiving.{badReceiver};
 ghost use Rattle.tape_spec.specs.Limits.{mostRecords};
-ghost use Rattle.tape_spec.specs.Whole.{kindOf};
 ghost use Rattle.tape.specs.Running.{Least, Gathered, left, runLeft, running, RunHeard as HeardOf};
 
 // The receiver after the records that were heard, their count, and where their rows end.

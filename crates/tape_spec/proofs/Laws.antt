@@ -2,6 +2,7 @@
 pub mod Rows
 pub mod Fine
 pub mod Taping
+pub mod Coming
 pub mod Remaining
 pub mod Whole
 pub mod Frames

@@ -1,9 +1,11 @@
 -- The three demands hold.
 -- Assumes nothing.
 use mathlib.Core.Path.{ap, _∙_}
+use mathlib.Core.List.{_++_}
 use Rattle.ground.proofs.Laws.Laying.{put-refused, put-placed, put-keeps}
 use Rattle.wire_spec.proofs.Laws.Unstuffing.{unstuffing-stuffing}
-use Rattle.wire_spec.proofs.Laws.Writing.{length-refused, length-answered}
+use Rattle.checks.specs.Check.{withCheck}
+use Rattle.wire_spec.proofs.Laws.Writing.{length-refused, length-answered, written-short, written-whole}
 use Rattle.wire_spec.proofs.Laws.Frame.{frame-within, frame-over, frame-keeps}
 use Rattle.link_spec.specs.declared.station.Station.the-variants.{Point, Addressed}
 use Rattle.link_spec.specs.Receiving.{freshReceiver}
@@ -25,6 +27,7 @@ use Rattle.reader_spec.proofs.Laws.Answering as answering
 use Rattle.reader_spec.proofs.Laws.Answering.{answered-keeps, power-by-table, power-only, powered-keeps, powers-on}
 use Rattle.reader_spec.proofs.Laws.Sessions.{session-good, session-sends, repeat-stored, fresh-session}
 use Rattle.reader_spec.proofs.Laws.Some.{call-some, call-fine}
+use Rattle.reader_spec.proofs.Laws.Idle.{call-keeps}
 use Rattle.reader_spec.proofs.Laws.Repeats.{executed-repeats}
 use Rattle.reader_spec.proofs.Laws.Values.{written-read}
 use Rattle.tape_spec.specs.Whole.{parts, entries, freshReceivers}
@@ -33,8 +36,8 @@ use Rattle.tape_spec.proofs.Laws.Sessions.{listing-is, listing-shows, listing-s
 use Rattle.demands.specs.Refusing.{RefusesByTable, RefusedChangesNothing}
 use Rattle.demands.specs.Demands.{Demand1, Demand2, Demand3}
 use Rattle.demands.proofs.Laws.Refusing.{put-stops, length-counts, frame-counts, point-counts, addressed-counts, request-counts, new-refused, received-silent, reply-meaningless, listed-counts}
-use Rattle.demands.proofs.Laws.Exchange.{exchange}
-use Rattle.demands.proofs.Laws.Requests.{request-executed, request-nacked}
+use Rattle.demands.proofs.Laws.Exchange.{exchange, nack-exchange}
+use Rattle.demands.proofs.Laws.Requests.{request-executed, code-nacked, data-nacked}
 use Rattle.demands.proofs.Laws.Going.{receiver-goes-on, tape-goes-on}
 
 refuses-by-table : RefusesByTable
@@ -42,7 +45,11 @@ refuses-by-table =
     record {
       puts = λ bytes out at. (put-refused bytes out at, put-placed bytes out at);
       asksLength = λ content. (length-refused content, length-answered content);
-      frame = λ check head «data» out. (frame-over check head «data» out, frame-within check head «data» out);
+      frame = λ check head «data» out. let content = withCheck check (head ++ «data») in (
+        frame-over check head «data» out,
+        (λ within short. frame-within check head «data» out within ∙ written-short content out short),
+        (λ within room. frame-within check head «data» out within ∙ written-whole content out room),
+      );
       point = λ identifier command «data» out. record { row = point-by-table identifier command «data» out; only = point-only identifier command «data» out };
       addressed = λ address identifier command «data» out. record {
         row = addressed-by-table address identifier command «data» out;
@@ -99,12 +106,15 @@ demand-2 =
         recalls = repeat-stored se c;
         fine = call-fine se c;
         executes = λ identifier code «data» asks row. request-executed se c identifier code «data» asks row;
-        nacks = λ identifier code «data» asks none. request-nacked se c identifier code «data» asks none;
+        nacksCode = λ identifier code «data» asks none. code-nacked se c identifier code «data» asks none;
+        nacksData = λ identifier code «data» other asks row none. data-nacked se c identifier code «data» asks other row none;
+        keeps = λ idle. let u = call-keeps se c idle in record { state = u .state; kept = u .kept };
         read = exchange se c;
       };
       begins = λ alone store. (readerWith freshState, fresh-session store);
       goesOn = call-some;
       powers = λ {s = s} se r says. ap (λ (p : PoweredOn). p .refusal) says ∙ ap (λ (p : PoweredOn). p .refusal) (powers-on _ (session-good se));
+      nackRead = nack-exchange;
       values = written-read;
       repeats = λ se first done does idle again. executed-repeats se first done does idle again;
     }

@@ -1,6 +1,6 @@
 -- A whole exchange: what a reader sends is heard by the link as the frame that it meant, and the master reads in it what was meant.
 -- Assumes nothing.
-use mathlib.Core.Path.{_≡_, sym, ap, subst, subst⁻¹, _∙_}
+use mathlib.Core.Path.{_≡_, refl, sym, ap, subst, subst⁻¹, _∙_}
 use mathlib.Core.Bool.{Bool}
 use mathlib.Core.List.{List, _++_, List·Memᴰ}
 use Prim.Native.Nat.{ℕ, _+_, _≤_}
@@ -14,10 +14,10 @@ use Rattle.link_spec.specs.Hearing.{Told, toldAt, IsFresh, Hearing}
 use Rattle.link_spec.proofs.Laws.Listed.{point-image-listed}
 use Rattle.request_spec.specs.declared.command.Command.{Command}
 use Rattle.request_spec.specs.declared.command.Acceptance.the-variants.{Accepted}
-use Rattle.request_spec.specs.Acceptance.{acceptance}
+use Rattle.request_spec.specs.Acceptance.{acceptance, Accepts}
 use Rattle.request_spec.specs.Replies.{Reply, NACK, sign, identifierOf, commandOf, dataOf, commandIn, dataIn, frontOf}
 use Rattle.request_spec.specs.Reading.{hasRead, replyRead}
-use Rattle.request_spec.proofs.Laws.Acceptance.{accepts}
+use Rattle.request_spec.proofs.Laws.Acceptance.{accepts, accepted}
 use Rattle.request_spec.proofs.Laws.Reading.{reads-nack}
 use Rattle.reader_spec.specs.declared.reader.Reader.{Reader}
 use Rattle.reader_spec.specs.Replies.{replyImage, replyTo}
@@ -51,31 +51,30 @@ heard-and-read identifier code «data» bytes before rest reply {m} {all} fits i
 
 -- the reply to a request that was executed
 pub exchange : {alone : Bool} {s : Reader} {held : List ℕ} {h : History} → ReaderSession alone s held h
-    → (c : Call alone h s held) (identifier code : ℕ) («data» before rest : List ℕ) {m : Receiver} {all : List Told}
+    → (c : Call alone h s held) (identifier code : ℕ) («data» before rest : List ℕ) {command : Command} {m : Receiver} {all : List Told}
     → Asks c identifier code «data»
-    → (x : RequestExecuted c)
+    → RequestExecuted c command
     → IsFresh Point m
     → Hearing (before ++ (bytesSent c ++ rest)) m 0 all
-    → HeardAndRead identifier code «data» before all (bytesSent c) (replyTo (h .value) (x .command) (c .input .header) (c .input .antenna))
-exchange {h = h} se c identifier code «data» before rest asks x fr hearing =
+    → HeardAndRead identifier code «data» before all (bytesSent c) (replyTo (h .value) command (c .input .header) (c .input .antenna))
+exchange {h = h} se c identifier code «data» before rest {command} asks x fr hearing =
     let sized = session-agrees se .sized in
     let i = c .input in
-    let asked : acceptance code «data» ≡ Accepted (x .command) =
+    let asked : acceptance code «data» ≡ Accepted command =
     ap (λ (l : List ℕ). acceptance (commandOf l) (dataOf l)) (sym (asks .content)) ∙ x .asked in
-    heard-and-read identifier code «data» _ before rest (replyTo (h .value) (x .command) (i .header) (i .antenna))
-    (reply-fits (h .value) sized (i .header) (i .antenna) (x .command) (c .whole) (asks .well .0))
+    heard-and-read identifier code «data» _ before rest (replyTo (h .value) command (i .header) (i .antenna))
+    (reply-fits (h .value) sized (i .header) (i .antenna) command (c .whole) (asks .well .0))
     (x .sends
-    ∙ ap (λ (l : List ℕ). replyImage (identifierOf l) (commandOf l) (replyTo (h .value) (x .command) (i .header) (i .antenna))) (asks .content))
+    ∙ ap (λ (l : List ℕ). replyImage (identifierOf l) (commandOf l) (replyTo (h .value) command (i .header) (i .antenna))) (asks .content))
     (master-reads (h .value) sized identifier (i .header) (i .antenna) (c .whole) (accepts code «data» asked)) fr hearing
 
 -- a NACK, sent, heard, and read, wherever the master's request was acceptable and the identifier is its own
-pub nack-exchange : {command : Command} (n identifier code : ℕ) («data» bytes before rest : List ℕ) {m : Receiver} {all : List Told} → 1 ≤ n
+pub nack-exchange : (n identifier code : ℕ) («data» before rest : List ℕ) {command : Command} {m : Receiver} {all : List Told} → 1 ≤ n
     → n ≤ 6
-    → acceptance code «data» ≡ Accepted command
-    → bytes ≡ replyImage identifier sign (NACK n)
+    → Accepts code «data» command
     → IsFresh Point m
-    → Hearing (before ++ (bytes ++ rest)) m 0 all
-    → HeardAndRead identifier code «data» before all bytes (NACK n)
-nack-exchange {command} n identifier code «data» bytes before rest least most asked image fr hearing =
-    heard-and-read identifier code «data» bytes before rest (NACK n) (omega arith) image
-    (reads-nack identifier code «data» command asked n least most) fr hearing
+    → Hearing (before ++ (replyImage identifier sign (NACK n) ++ rest)) m 0 all
+    → HeardAndRead identifier code «data» before all (replyImage identifier sign (NACK n)) (NACK n)
+nack-exchange n identifier code «data» before rest {command} least most row fr hearing =
+    heard-and-read identifier code «data» (replyImage identifier sign (NACK n)) before rest (NACK n) (omega arith) refl
+    (reads-nack identifier code «data» command (accepted row) n least most) fr hearing

@@ -1,18 +1,21 @@
--- A request of the paper's table is executed, and any other is answered NACK 2 or 3.
+-- A request of the paper's table is executed; a code that the table does not have is answered NACK 2, data that it does not have NACK 3.
 -- Assumes nothing.
-use mathlib.Core.Path.{_≡_, refl, ap, _∙_}
+use mathlib.Core.Path.{_≡_, refl, sym, ap, _∙_}
 use mathlib.Core.Bool.{Bool, true, false, true≢false}
 use mathlib.Core.List.{List}
 use Prim.Native.Nat.{ℕ, _≤_}
 use lib.ListN.{length}
+use Rattle.ground.proofs.Laws.Choice.{by-test}
 use Rattle.link_spec.specs.Limits.{mostData}
 use Rattle.link_spec.specs.Events.{FRAME}
 use Rattle.request_spec.specs.declared.command.Command.{Command}
 use Rattle.request_spec.specs.declared.command.Acceptance.{Acceptance}
 use Rattle.request_spec.specs.declared.command.Acceptance.the-variants.{Accepted, Faulty}
-use Rattle.request_spec.specs.Acceptance.{acceptance, isAccepted, Accepts}
+use Rattle.request_spec.specs.declared.command.Fault.{Fault}
+use Rattle.request_spec.specs.declared.command.Fault.the-variants.{UnknownCode, BadData}
+use Rattle.request_spec.specs.Acceptance.{isKnown, acceptance, nackOf, Accepts}
 use Rattle.request_spec.specs.Replies.{identifierOf, commandOf, dataOf}
-use Rattle.request_spec.proofs.Laws.Acceptance.{accepts, accepted, accepted-short}
+use Rattle.request_spec.proofs.Laws.Acceptance.{unknown-only, unknown-code, accepts, accepted, row-known, HasRow, known-row, accepted-short}
 use Rattle.reader_spec.specs.declared.reader.Asking.the-variants.{Right}
 use Rattle.reader_spec.specs.declared.reader.Reader.{Reader}
 use Rattle.reader_spec.specs.State.{stateOf}
@@ -51,11 +54,12 @@ module _ {alone : Bool} {s : Reader} {held : List ℕ} {h : History} (se : Reade
       let framed = call-framed se c (done short) frame in
       rw (new, asked-is ∙ asked) at framed
 
-  judge-executes : {command : Command} → acceptance code «data» ≡ Accepted command → RequestExecuted c
-  judge-executes {command} asked =
-      let fine = done (accepted-short (accepts code «data» asked)) in
+  -- a request of the paper's table is executed by a reader for which it repeats nothing, so by a fresh one
+  pub request-executed : {command : Command} → Accepts code «data» command → RequestExecuted c command
+  request-executed {command} row =
+      let fine = done (accepted-short row) in
+      let asked = accepted row in
       record {
-        command = command;
         asked = asked-is ∙ asked;
         done = fine;
         sends = session-replies se c fine (asks .event) new (asked-is ∙ asked);
@@ -63,28 +67,32 @@ module _ {alone : Bool} {s : Reader} {held : List ℕ} {h : History} (se : Reade
         goesOn = rw (frame, new, asked-is ∙ asked) at (session-on se c fine);
       }
 
-  judge-nacks : (k : Acceptance) → acceptance code «data» ≡ k → isAccepted k ≡ false → length «data» ≤ mostData → RequestNacked c
-  judge-nacks (Faulty fault) asked bad short =
+  faulty-nacked : (fault : Fault) → acceptance code «data» ≡ Faulty fault → length «data» ≤ mostData → RequestNacked c (nackOf fault)
+  faulty-nacked fault asked short =
       let fine = done short in
       let judged = judges asked short in
       record {
-        fault = fault;
-        asked = asked-is ∙ asked;
         done = fine;
         sends = session-replies se c fine (asks .event) new (asked-is ∙ asked);
-        state = ap (λ (a : Answered). a .state) judged;
-        kept = ap (λ (a : Answered). a .left .store) judged;
+        unchanged = record { state = ap (λ (a : Answered). a .state) judged; kept = ap (λ (a : Answered). a .left .store) judged };
       }
-  judge-nacks (Accepted command) asked bad short = absurd (true≢false bad)
 
-  -- a request of the paper's table is executed by a reader for which it repeats nothing, so by a fresh one; and any other, if a frame can
-  -- carry it, is answered NACK 2 or 3
-  pub request-executed : {command : Command} → Accepts code «data» command → RequestExecuted c
-  request-executed row = judge-executes (accepted row)
-
-  pub request-nacked : ((command : Command) → Accepts code «data» command → ⊥) → length «data» ≤ mostData → RequestNacked c
-  request-nacked none = judge-nacks (acceptance code «data») refl (of (acceptance code «data») refl)
+  -- any other, if a frame can carry it, is answered NACK 2 where no row has its code
+  pub code-nacked : ((other : List ℕ) (command : Command) → Accepts code other command → ⊥) → length «data» ≤ mostData → RequestNacked c 2
+  code-nacked none =
+      faulty-nacked UnknownCode
+      (unknown-code code «data» (by-test (λ (t : Bool). t ≡ false) (isKnown code) (λ known. absurd (no-row (known-row code known))) (λ _. refl)))
     where
-      of : (k : Acceptance) → acceptance code «data» ≡ k → isAccepted k ≡ false
-      of (Faulty fault) is = refl
-      of (Accepted command) is = absurd (none command (accepts code «data» is))
+      no-row : HasRow code → ⊥
+      no-row (other, command, row) = none other command row
+
+  -- and NACK 3 where rows have its code and none its data
+  pub data-nacked : (other : List ℕ) {some : Command} → Accepts code other some → ((command : Command) → Accepts code «data» command → ⊥)
+      → length «data» ≤ mostData
+      → RequestNacked c 3
+  data-nacked other row none = faulty-nacked BadData (bad-data (acceptance code «data») refl)
+    where
+      bad-data : (k : Acceptance) → acceptance code «data» ≡ k → acceptance code «data» ≡ Faulty BadData
+      bad-data (Accepted command) is = absurd (none command (accepts code «data» is))
+      bad-data (Faulty BadData) is = is
+      bad-data (Faulty UnknownCode) is = absurd (true≢false (sym (row-known row) ∙ unknown-only code «data» is))

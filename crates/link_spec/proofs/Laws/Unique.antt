@@ -1,4 +1,5 @@
--- A call's statement leaves no choice: two results that it allows are equal. docs/STATEMENTS.md cites one of these for each call.
+-- A call's statement leaves no choice: two results that it allows are equal. docs/STATEMENTS.md cites one for each call whose
+-- statement reads its result; the others have ground's `same`.
 -- Assumes nothing.
 use mathlib.Core.Path.{_≡_, refl, ap}
 use mathlib.Mathlib.Logic.Function.Defs.{LeftInverse·injective}
@@ -9,18 +10,18 @@ use Rattle.link_spec.specs.declared.receiver.Turn.{Turn}
 use Rattle.link_spec.specs.declared.receiver.Turn.the-variants.{Rest, Begin, Wait, Keep, Stop, Tell}
 use Rattle.link_spec.specs.declared.receiver.Fresh.{Fresh}
 use Rattle.link_spec.specs.declared.receiver.Heard.{Heard}
-use Rattle.link_spec.specs.Moves.{Move, REST, BEGIN, WAIT, STOP, KEEP, TELL, moveOf, Ruling, rulingOf}
+use Rattle.link_spec.specs.Moves.{Move, IGNORED, BEGINS, WAITS, CONTENT, ENDS, EVENT, moveOf, Ruling, rulingOf}
 use Rattle.link_spec.specs.Receiving.{Made, made, Said, saying}
 use Rattle.link_spec.proofs.Laws.Events.{eventOf, eventOf-named, named-injective}
 
 -- the turn that this move is
 abbrev turnOf : Move → Turn
-turnOf REST = Rest
-turnOf BEGIN = Begin
-turnOf WAIT = Wait
-turnOf STOP = Stop
-turnOf (KEEP b) = Keep b
-turnOf (TELL name) = Tell (eventOf name)
+turnOf IGNORED = Rest
+turnOf BEGINS = Begin
+turnOf WAITS = Wait
+turnOf (CONTENT b) = Keep b
+turnOf ENDS = Stop
+turnOf (EVENT name) = Tell (eventOf name)
 
 turnOf-move : (t : Turn) → turnOf (moveOf t) ≡ t
 turnOf-move Rest = refl

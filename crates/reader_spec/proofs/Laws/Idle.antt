@@ -44,9 +44,9 @@ executes-nothing h i = executes-nothing-as h i (asking (i .event))
 
 -- ---- and changes neither the state nor the store
 
-record Unchanged (s : State) (lent : Buffers) (a : Answered) : Type 0 where
-  state : a .state ≡ s
-  kept : a .left .store ≡ lent .store
+pub record Unchanged (s : State) (lent : Buffers) (a : Answered) : Type 0 where
+  pub state : a .state ≡ s
+  pub kept : a .left .store ≡ lent .store
 
 module _ (s : State) (i : Input) (lent : Buffers) where
   judged-keeps : (k : Acceptance) → isAccepted k ≡ false → Unchanged s lent (judged s i lent k)
@@ -67,10 +67,10 @@ module _ (s : State) (i : Input) (lent : Buffers) where
       (λ (t : Bool). (not t && isAccepted (asksFor i)) ≡ false → Unchanged s lent (cond t (recalledAs s lent (h .last)) (judgedAs s i lent)))
       (repeatsLast h i) (λ _ _. recalled-keeps (h .last)) (λ _ n. judged-keeps (asksFor i) n) idle)
 
-call-keeps : {alone : Bool} {h : History} {s : Reader} {held : List ℕ} → ReaderSession false s held h → (c : Call alone h s held)
+pub call-keeps : {among alone : Bool} {h : History} {s : Reader} {held : List ℕ} → ReaderSession among s held h → (c : Call alone h s held)
     → (Done c → isExecuted h (c .input) ≡ false)
     → Unchanged (stateOf s) (c .lent) (answerSays (c .answer) (c .left))
-call-keeps {h} {s} se c idle =
+call-keeps {h = h} {s = s} se c idle =
     subst⁻¹ (Unchanged (stateOf s) (c .lent)) (c .says)
     (row-elim (stateOf s) (c .input) (c .lent)
     (λ (a : Answered). (a .refusal ≡ 0 → isExecuted h (c .input) ≡ false) → Unchanged (stateOf s) (c .lent) a)

@@ -9,7 +9,7 @@ use native.Mathlib.Omega.{arith}
 use lib.Dec.{eqb}
 use lib.ListN.{length, getD, drop}
 use borrow.Author.Tests.{eqb-true}
-use Rattle.ground.proofs.Laws.Choice.{cond-elim, or-none}
+use Rattle.ground.proofs.Laws.Choice.{cond-elim, or-elim, or-none}
 use Rattle.link_spec.specs.Limits.{mostData}
 use Rattle.request_spec.specs.declared.parameter.Parameter.{Parameter}
 use Rattle.request_spec.specs.declared.parameter.Parameter.the-variants.{Speed, Settings, Cell}
@@ -22,7 +22,7 @@ use Rattle.request_spec.specs.declared.command.Command.the-variants.{Hea
 use Rattle.request_spec.specs.declared.command.Acceptance.{Acceptance}
 use Rattle.request_spec.specs.declared.command.Acceptance.the-variants.{Accepted, Faulty}
 use Rattle.request_spec.specs.declared.command.Fault.the-variants.{UnknownCode, BadData}
-use Rattle.request_spec.specs.Parameters.{parameterCode, parameterWith, isValueOf}
+use Rattle.request_spec.specs.Parameters.{parameterCode, parameterWith, isValueOf, ofSpeed}
 use Rattle.request_spec.specs.Acceptance.{bareAccepted, writeAcceptedTo, writeAccepted, readAcceptedFrom, readAccepted, isKnown, acceptance, commandCode, Judgement, byCode, byCodes, byNumber, judgement, FitsCommand, Accepts, header, write, read, marin, hid, motorola}
 use Rattle.request_spec.proofs.Laws.Parameters.{value-sizes, lengthOf-most, value-is}
 
@@ -154,6 +154,29 @@ accepted (read p) = simp (parameter-with p)
 accepted marin = refl
 accepted hid = refl
 accepted motorola = refl
+
+-- a code exists where the table has a row with it, and only there
+pub row-known : {code : ℕ} {«data» : List ℕ} {command : Command} → Accepts code «data» command → isKnown code ≡ true
+row-known header = refl
+row-known (write p value fits) = refl
+row-known (read p) = refl
+row-known marin = refl
+row-known hid = refl
+row-known motorola = refl
+
+abbrev pub HasRow : ℕ → Type 0
+HasRow code = («data» : List ℕ) × (command : Command) × Accepts code «data» command
+
+pub known-row : (code : ℕ) → isKnown code ≡ true → HasRow code
+known-row code =
+    or-elim (eqb code 0x00) _ (row-at 0x00 ([], Header, header))
+    (or-elim (eqb code 0x01) _ (row-at 0x01 (parameterCode Speed ∷ 3 ∷ [], Write Speed, write Speed (3 ∷ []) (ofSpeed (omega arith) (omega arith))))
+    (or-elim (eqb code 0x02) _ (row-at 0x02 (parameterCode Speed ∷ [], Read Speed, read Speed))
+    (or-elim (eqb code 0x10) _ (row-at 0x10 ([], Card Marin, marin))
+    (or-elim (eqb code 0x14) _ (row-at 0x14 ([], Card Hid, hid)) (row-at 0x18 ([], Card Motorola, motorola))))))
+  where
+    row-at : (k : ℕ) → HasRow k → eqb code k ≡ true → HasRow code
+    row-at k row t = subst⁻¹ HasRow (eqb-true code k t) row
 
 -- so data that is accepted is short, and a write's data is what it says
 pub accepted-short : {code : ℕ} {«data» : List ℕ} {command : Command} → Accepts code «data» command → length «data» ≤ mostData

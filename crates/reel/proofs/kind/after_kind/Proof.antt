@@ -1,25 +1,24 @@
--- `kind::after_kind`: the tests that led to each `return` are those of `afterKind`, in its order.
+-- `kind::after_kind`: the tests that led to each `return` are those of `comingAfter`, in its order.
 -- Assumes nothing.
 use borrow.Author.Tests.{eq-eqb, ne-eqb}
-use Rattle.tape_spec.specs.Whole.{kind}
-use Rattle.tape_spec.specs.Taping.{afterKind}
+use Rattle.tape_spec.specs.Coming.{comingAfter}
 use Rattle.reel.proofs.kind.after_kind.Statement.{statement}
 use Rattle.reel.proofs.kind.after_kind.Tie as tie
 
 returns : tie.Need-returns
-unfolding afterKind
+unfolding comingAfter
 returns c = simp (eq-eqb _ _ (c .if1 .taken))
 
 returns-2 : tie.Need-returns-2
-unfolding afterKind kind
+unfolding comingAfter
 returns-2 c = simp (ne-eqb _ _ (c .before .if1 .left), c .match .keys1)
 
 returns-3 : tie.Need-returns-3
-unfolding afterKind kind
+unfolding comingAfter
 returns-3 c = simp (ne-eqb _ _ (c .before .if1 .left), c .match .keys2)
 
 returns-4 : tie.Need-returns-4
-unfolding afterKind kind
+unfolding comingAfter
 returns-4 c =
     simp (ne-eqb _ _ (c .before .if1 .left), ne-eqb _ _ (c .match .rest .0 .1), ne-eqb _ _ (c .match .rest .1))
 

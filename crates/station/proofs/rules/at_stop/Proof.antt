@@ -1,4 +1,4 @@
--- `rules::at_stop`: it is judged by the check of the station's line.
+-- `rules::at_stop`: the content is judged by the check of the station's line.
 -- Assumes nothing.
 use mathlib.Core.Path.{ap, _∙_}
 use borrow.Author.Needs.{needs}
@@ -11,13 +11,13 @@ use Rattle.station.proofs.rules.at_stop.Tie as tie
 check-on-requires : tie.Need-check-on-requires
 check-on-requires c κs = search needs
 
-judged-requires : tie.Need-judged-requires
-judged-requires c κs = search needs
+by-check-requires : tie.Need-by-check-requires
+by-check-requires c κs = search needs
 
 returns : tie.Need-returns
 returns c =
     ap rulingOf
-    (c .judged .ensures ∙ ap (λ (k : Check). verdict k (c .before .before .before .args .content .now)) (c .before .check-on .ensures))
+    (c .by-check .ensures ∙ ap (λ (k : Check). verdict k (c .before .before .before .args .content .now)) (c .before .check-on .ensures))
 
 pub at-stop-spec : {M : Type 1} → statement M
-at-stop-spec = tie.close (tie.spec check-on-requires judged-requires returns)
+at-stop-spec = tie.close (tie.spec check-on-requires by-check-requires returns)

@@ -8,7 +8,7 @@ use Prim.Native.Nat.{ℕ, _+_, _*_, _-_, _≤_, _<_, zero-le}
 use native.Mathlib.Omega.{arith}
 use borrow.Author.Needs.{needs}
 use borrow.Author.Tests.{leb-true, leb-false}
-use lib.ListN.{length, take, drop, length-drop}
+use lib.ListN.{length, take, drop, getD, length-drop}
 use Rattle.ground.proofs.Laws.Lists.{take-rest}
 use Rattle.link_spec.specs.declared.receiver.Receiver.{Receiver}
 use Rattle.tape_spec.specs.Limits.{leastRoom, mostRecords}
@@ -18,6 +18,7 @@ use Rattle.tape_spec.specs.declared.tape.Next.the-variants.{Kind, Body}
 use Rattle.tape_spec.specs.declared.tape.Tape.{Tape}
 use Rattle.tape_spec.specs.Whole.{receiverOn, withReceiver}
 use Rattle.tape_spec.specs.Taping.{tapeOf, isOver, going, ListedOut, textWritten}
+use Rattle.tape_spec.proofs.Laws.Coming.{coming-after}
 use Rattle.tape_spec.proofs.Laws.Unique.{same-coming}
 use Rattle.tape.specs.Running.{RunHeard, left}
 use Rattle.tape.proofs.Laws.Chunks.{over, Goes, none-taken, at-end, out-of-room, at-last, next-kind, permitted, on-good, next-run, run-some}
@@ -80,7 +81,7 @@ loop-again c =
     let a = test .before .before .before .before .before .before .args in
     let goes : Next → ℕ → Type 0 = λ x n. Goes (a .chunk .now) (asked (a .chunk .now) (a .tape) (a .out .now)) (l .out)
     (tapeOf (l .records) x (l .receivers)) n (l .written) in (
-      subst⁻¹ (λ (x : Next). goes x (l .taken + 1)) (same-coming (c .after-kind .ensures) refl)
+      subst⁻¹ (λ (x : Next). goes x (l .taken + 1)) (same-coming (c .after-kind .ensures) (coming-after (l .records) (getD (a .chunk .now) (l .taken) 0)))
           (next-kind _ _ (roomy test) (omega arith)
           (subst (λ (x : Next). goes x (l .taken)) (c .before .before .enum-told .given .1) (l .inv .0))),
       l .inv .1,

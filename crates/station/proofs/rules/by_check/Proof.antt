@@ -1,4 +1,4 @@
--- `rules::judged`: its two tests, on the length and on the check, are those of `verdict`, and 4 bytes are more than any check has.
+-- `rules::by_check`: its two tests, on the length and on the check, are those of `verdict`, and 4 bytes are more than any check has.
 -- Assumes nothing.
 use mathlib.Core.Path.{sym, _∙_}
 use native.Mathlib.Omega.{arith}
@@ -6,8 +6,8 @@ use borrow.Author.Tests.{lt-ltb, le-ltb}
 use borrow.Author.Needs.{needs}
 use Rattle.checks.proofs.Laws.Check.{check-most}
 use Rattle.link_spec.specs.Events.{verdict}
-use Rattle.station.proofs.rules.judged.Statement.{statement}
-use Rattle.station.proofs.rules.judged.Tie as tie
+use Rattle.station.proofs.rules.by_check.Statement.{statement}
+use Rattle.station.proofs.rules.by_check.Tie as tie
 
 returns : tie.Need-returns
 unfolding verdict
@@ -40,7 +40,7 @@ returns-3 c =
       sym (c .before .is-right .ensures) ∙ c .if2 .left,
     )
 
-pub judged-spec : {M : Type 1} → statement M
-judged-spec =
+pub by-check-spec : {M : Type 1} → statement M
+by-check-spec =
     tie.close
     (tie.spec returns check-length-requires sub-length is-right-requires returns-2 returns-3)
