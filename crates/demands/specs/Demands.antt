@@ -1,5 +1,5 @@
 -- The three demands that the library keeps, as three propositions about the statements of its calls. `proofs/Laws/Demands` proves each.
--- README, at its head; 01, 'How much each call must say', names them. Assumes nothing.
+-- Their words are those at the head of README; 01, 'How much each call must say', says what they have to rule out. Assumes nothing.
 use mathlib.Core.Path.{_≡_}
 use mathlib.Core.Bool.{Bool, true, false}
 use mathlib.Core.List.{List, _∷_, _++_, List·Memᴰ}

@@ -64,7 +64,8 @@ abbrev pub Writer : (List ℕ → After) → Type 0
 Writer writes =
     (out : List ℕ) → Keeps (writes out .tally .refusal) out (writes out .out) × AnswersOnly (writes out .tally .refusal) 0 (writes out .tally .count)
 
--- A refused call changes no state and no byte of a lent buffer, and answers count 0, no event, no meaning or an empty part.
+-- A refused call changes no state and no byte of a lent buffer, and answers count 0 (`put` the place where it began), no event, no meaning or an
+-- empty part.
 pub record RefusedChangesNothing : Type 0 where
   pub puts : (bytes out : List ℕ) (at : ℕ) → let e = put bytes out at in Keeps (e .refusal) out (e .out) × AnswersOnly (e .refusal) at (e .end)
   pub asksLength : (content : List ℕ) → AnswersOnly (lengthAsked content .refusal) 0 (lengthAsked content .count)
