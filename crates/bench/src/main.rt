@@ -14,7 +14,6 @@ mod writers;
 
 use bench::Bench;
 use buffer::front;
-use op::perform;
 use row::Row;
 use script::Ending;
 use script::Next;
@@ -40,7 +39,7 @@ fn run(space: &mut [u8]) -> bool {
         let next = read_record(space);
         match next {
             Next::Record(op, code, length) => {
-                let done = perform(bench, op, front(space, length), Row::of_op(code));
+                let done = bench.perform(op, front(space, length), Row::of_op(code));
                 bench = done.bench;
                 if !done.row.print() {
                     return false;

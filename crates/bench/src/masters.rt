@@ -1,28 +1,10 @@
-// The point line's master: typed requests, and the reading of replies.
-use crate::buffer::MOST_ROOM;
-use crate::buffer::UNTOUCHED;
+// The point line's master: the reading of replies.
 use crate::buffer::front;
-use crate::buffer::front_mut;
-use crate::number::number_at;
 use crate::number::one_byte;
 use crate::row::Row;
-use crate::writers::put_written;
 use master::data_of;
 use master::read_reply;
 use request::Meaning;
-use request::write_request;
-
-// Payload: room, identifier, code, data.
-pub(crate) fn put_request(payload: &[u8], row: Row) -> Row {
-    if payload.len() < 4 {
-        return row.short();
-    }
-    let room = number_at(payload, 0);
-    let mut buffer = [UNTOUCHED; MOST_ROOM];
-    let lent = front_mut(&mut buffer, room);
-    let written = write_request(payload[2], payload[3], &payload[4..], lent);
-    put_written(written, lent, row)
-}
 
 // Payload: identifier, code, count of data, data, reply.
 pub(crate) fn put_reading(payload: &[u8], row: Row) -> Row {

@@ -1,6 +1,6 @@
 // The point reader.
-use crate::bench::Bench;
-use crate::bench::Done;
+use crate::buffer::MOST_ROOM;
+use crate::buffer::UNTOUCHED;
 use crate::buffer::front;
 use crate::buffer::front_mut;
 use crate::number::number_at;
@@ -13,12 +13,37 @@ use reader::Buffer;
 use reader::Memory;
 use reader::Parameters;
 use reader::Reader;
+use reader::fresh_reader;
 use reader::to_send;
 use request::CELL_LENGTH;
 use request::HEADER_LENGTH;
 use request::SETTINGS_LENGTH;
+use request::header;
 ghost use Prim.Native.Nat.{_≤_};
 ghost use lib.ListN.{length};
+
+// A reader with its device header and its two buffers.
+pub(crate) struct Device {
+    reader: Reader,
+    store: [u8; MOST_ROOM],
+    out: [u8; MOST_ROOM],
+    header: [u8; HEADER_LENGTH],
+}
+
+// What a record asks of the reader: an answer, a power-on, both buffers, or a state or a device header to be put.
+pub(crate) enum ReaderOp {
+    Answer,
+    PowerOn,
+    Buffers,
+    SetReader,
+    SetHeader,
+}
+
+// After such a record: the device, and the record's row.
+pub(crate) struct Served {
+    pub(crate) device: Device,
+    pub(crate) row: Row,
+}
 
 // How many bytes of each buffer's front are lent.
 struct Rooms {
@@ -26,56 +51,138 @@ struct Rooms {
     out: usize,
 }
 
-// Payload: event, antenna count, store room, out room, antenna, content.
-pub(crate) fn answer(bench: Bench, payload: &[u8], row: Row) -> Done {
-    if payload.len() < 6 {
-        return bench.short(row);
+impl Device {
+    pub(crate) fn fresh() -> Device {
+        Device {
+            reader: fresh_reader(),
+            store: [UNTOUCHED; MOST_ROOM],
+            out: [UNTOUCHED; MOST_ROOM],
+            header: first_header(),
+        }
     }
-    let count = one_byte(payload[1]);
-    let rest = &payload[6..];
-    if rest.len() < count {
-        return bench.short(row);
+
+    pub(crate) fn perform(self, op: ReaderOp, payload: &[u8], row: Row) -> Served {
+        match op {
+            ReaderOp::Answer => self.answer(payload, row),
+            ReaderOp::PowerOn => self.power_on(row),
+            ReaderOp::Buffers => self.put_buffers(row),
+            ReaderOp::SetReader => self.set_reader(payload, row),
+            ReaderOp::SetHeader => self.set_header(payload, row),
+        }
     }
-    let rooms = Rooms {
-        store: number_at(payload, 2),
-        out: number_at(payload, 4),
-    };
-    let antenna = front(rest, count);
-    let content = &rest[count..];
-    answer_event(bench, event(payload[0]), content, antenna, rooms, row)
+
+    // After a record that left this device and wrote this row.
+    fn done(self, row: Row) -> Served {
+        Served { device: self, row }
+    }
+
+    // A payload that is shorter than its fixed part changes nothing.
+    fn short(self, row: Row) -> Served {
+        self.done(row.short())
+    }
+
+    // Payload: event, antenna count, store room, out room, antenna, content.
+    fn answer(self, payload: &[u8], row: Row) -> Served {
+        if payload.len() < 6 {
+            return self.short(row);
+        }
+        let count = one_byte(payload[1]);
+        let rest = &payload[6..];
+        if rest.len() < count {
+            return self.short(row);
+        }
+        let rooms = Rooms {
+            store: number_at(payload, 2),
+            out: number_at(payload, 4),
+        };
+        let antenna = front(rest, count);
+        let content = &rest[count..];
+        self.answer_event(event(payload[0]), content, antenna, rooms, row)
+    }
+
+    fn answer_event(
+        mut self,
+        event: Event,
+        content: &[u8],
+        antenna: &[u8],
+        rooms: Rooms,
+        row: Row,
+    ) -> Served {
+        let reader = self.reader;
+        let mut store = self.store;
+        let mut out = self.out;
+        let lent_store = front_mut(&mut store, rooms.store);
+        let lent_out = front_mut(&mut out, rooms.out);
+        let header = self.header;
+        let answer = reader::answer(
+            reader,
+            event,
+            content,
+            header,
+            antenna,
+            lent_store,
+            lent_out,
+        );
+        let reader = answer.reader;
+        self.reader = reader;
+        self.store = store;
+        self.out = out;
+        let store_front = front(&store, rooms.store);
+        let out_front = front(&out, rooms.out);
+        let row = put_answer(answer, store_front, out_front, row);
+        self.done(put_reader(reader, row))
+    }
+
+    fn power_on(mut self, row: Row) -> Served {
+        let reader = self.reader;
+        let powered = reader::power_on(reader);
+        let refusal = powered.refusal;
+        let reader = powered.reader;
+        self.reader = reader;
+        self.done(put_reader(reader, row.refusal(refusal)))
+    }
+
+    fn put_buffers(self, row: Row) -> Served {
+        let out = self.out;
+        let store = self.store;
+        self.done(row.bytes(&out).bytes(&store))
+    }
+
+    // Payload: speed, parameter 05, parameter 80, has, identifier, command, length. Puts no field.
+    fn set_reader(mut self, payload: &[u8], row: Row) -> Served {
+        if payload.len() < 18 {
+            return self.short(row);
+        }
+        let parameters = parameters(payload);
+        let memory = memory(payload);
+        let reader = Reader { parameters, memory };
+        self.reader = reader;
+        self.done(row)
+    }
+
+    // Payload: header. Puts no field.
+    fn set_header(mut self, payload: &[u8], row: Row) -> Served {
+        if payload.len() < HEADER_LENGTH {
+            return self.short(row);
+        }
+        let mut header = self.header;
+        put(&payload[0..HEADER_LENGTH], &mut header, 0);
+        self.header = header;
+        self.done(row)
+    }
 }
 
-fn answer_event(
-    mut bench: Bench,
-    event: Event,
-    content: &[u8],
-    antenna: &[u8],
-    rooms: Rooms,
-    row: Row,
-) -> Done {
-    let reader = bench.reader;
-    let mut store = bench.store;
-    let mut out = bench.out;
-    let lent_store = front_mut(&mut store, rooms.store);
-    let lent_out = front_mut(&mut out, rooms.out);
-    let header = bench.header;
-    let answer = reader::answer(
-        reader,
-        event,
-        content,
-        header,
-        antenna,
-        lent_store,
-        lent_out,
-    );
-    let reader = answer.reader;
-    bench.reader = reader;
-    bench.store = store;
-    bench.out = out;
-    let store_front = front(&store, rooms.store);
-    let out_front = front(&out, rooms.out);
-    let row = put_answer(answer, store_front, out_front, row);
-    bench.done(put_reader(reader, row))
+// The bytes 00, 01, .. 27: a name of 20 bytes, and five numbers, low byte first.
+fn first_header() -> [u8; HEADER_LENGTH] {
+    let name = *b"\x00\x01\x02\x03\x04\x05\x06\x07\x08\x09\x0A\x0B\x0C\x0D\x0E\x0F\x10\x11\x12\x13";
+    header(
+        name,
+        0x17161514,
+        0x1B1A1918,
+        0x1F1E1D1C,
+        0x23222120,
+        0x27262524,
+    )
 }
 
 fn event(byte: u8) -> Event {
@@ -130,27 +237,6 @@ fn put_memory(memory: Memory, row: Row) -> Row {
     }
 }
 
-pub(crate) fn power_on(mut bench: Bench, row: Row) -> Done {
-    let reader = bench.reader;
-    let powered = reader::power_on(reader);
-    let refusal = powered.refusal;
-    let reader = powered.reader;
-    bench.reader = reader;
-    bench.done(put_reader(reader, row.refusal(refusal)))
-}
-
-// Payload: speed, parameter 05, parameter 80, has, identifier, command, length. Puts no field.
-pub(crate) fn set_reader(mut bench: Bench, payload: &[u8], row: Row) -> Done {
-    if payload.len() < 18 {
-        return bench.short(row);
-    }
-    let parameters = parameters(payload);
-    let memory = memory(payload);
-    let reader = Reader { parameters, memory };
-    bench.reader = reader;
-    bench.done(row)
-}
-
 fn parameters(payload: &[u8]) -> Parameters
     requires { ⌜ 18 ≤ length (now payload) ⌝ }
 {
@@ -176,21 +262,4 @@ fn memory(payload: &[u8]) -> Memory
         command: payload[15],
         length: number_at(payload, 16),
     }
-}
-
-// Payload: header. Puts no field.
-pub(crate) fn set_header(mut bench: Bench, payload: &[u8], row: Row) -> Done {
-    if payload.len() < HEADER_LENGTH {
-        return bench.short(row);
-    }
-    let mut header = bench.header;
-    put(&payload[0..HEADER_LENGTH], &mut header, 0);
-    bench.header = header;
-    bench.done(row)
-}
-
-pub(crate) fn put_buffers(bench: Bench, row: Row) -> Done {
-    let out = bench.out;
-    let store = bench.store;
-    bench.done(row.bytes(&out).bytes(&store))
 }

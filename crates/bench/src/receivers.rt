@@ -1,35 +1,113 @@
 // The receivers of the two lines.
-use crate::bench::Bench;
-use crate::bench::Done;
 use crate::buffer::front;
 use crate::number::number_at;
 use crate::row::Row;
 use ground::number;
 use link::Event;
 use link::Heard;
+use link::MASTER;
 use link::Phase;
 use link::Receiver;
 use link::Station;
 use link::fresh_addressed;
+use link::fresh_point;
 use link::receive;
 use wire::MOST_CONTENT;
 ghost use Prim.Native.Nat.{_≤_};
 ghost use lib.ListN.{length};
 
-pub(crate) fn hear_point(mut bench: Bench, piece: &[u8], row: Row) -> Done {
-    let receiver = bench.point;
-    let heard = receive(receiver, piece);
-    let receiver = heard.receiver;
-    bench.point = receiver;
-    bench.done(put_heard(heard, row))
+pub(crate) struct Receivers {
+    point: Receiver,
+    addressed: Receiver,
 }
 
-pub(crate) fn hear_addressed(mut bench: Bench, piece: &[u8], row: Row) -> Done {
-    let receiver = bench.addressed;
-    let heard = receive(receiver, piece);
-    let receiver = heard.receiver;
-    bench.addressed = receiver;
-    bench.done(put_heard(heard, row))
+pub(crate) enum Line {
+    Point,
+    Addressed,
+}
+
+// What a record asks of the receivers: one call of a line's, a new station on the addressed line, or a state to be put.
+pub(crate) enum ReceiverOp {
+    Hear(Line),
+    NewStation,
+    SetReceiver,
+}
+
+// After such a record: the receivers, and the record's row.
+pub(crate) struct Listened {
+    pub(crate) receivers: Receivers,
+    pub(crate) row: Row,
+}
+
+impl Receivers {
+    pub(crate) fn fresh() -> Receivers {
+        let addressed = fresh_addressed(MASTER).receiver;
+        Receivers {
+            point: fresh_point(),
+            addressed,
+        }
+    }
+
+    pub(crate) fn perform(self, op: ReceiverOp, payload: &[u8], row: Row) -> Listened {
+        match op {
+            ReceiverOp::Hear(line) => self.hear(line, payload, row),
+            ReceiverOp::NewStation => self.new_station(payload, row),
+            ReceiverOp::SetReceiver => self.set(payload, row),
+        }
+    }
+
+    // After a record that left these receivers and wrote this row.
+    fn done(self, row: Row) -> Listened {
+        Listened {
+            receivers: self,
+            row,
+        }
+    }
+
+    fn on(self, line: Line) -> Receiver {
+        match line {
+            Line::Point => self.point,
+            Line::Addressed => self.addressed,
+        }
+    }
+
+    // With another receiver on a line.
+    fn with(mut self, line: Line, receiver: Receiver) -> Receivers {
+        match line {
+            Line::Point => self.point = receiver,
+            Line::Addressed => self.addressed = receiver,
+        }
+        self
+    }
+
+    fn hear(self, line: Line, piece: &[u8], row: Row) -> Listened {
+        let heard = receive(self.on(line), piece);
+        let receiver = heard.receiver;
+        self.with(line, receiver).done(put_heard(heard, row))
+    }
+
+    // Payload: address. Where it is refused the receiver stays.
+    fn new_station(self, payload: &[u8], row: Row) -> Listened {
+        if payload.len() < 1 {
+            return self.done(row.short());
+        }
+        let fresh = fresh_addressed(payload[0]);
+        let refusal = fresh.refusal;
+        let row = row.refusal(refusal);
+        if number(refusal) != 0 {
+            return self.done(row);
+        }
+        let receiver = fresh.receiver;
+        self.with(Line::Addressed, receiver).done(row)
+    }
+
+    // Payload: line, address, phase, count, fill. Puts no field.
+    fn set(self, payload: &[u8], row: Row) -> Listened {
+        if payload.len() < 6 {
+            return self.done(row.short());
+        }
+        self.with(line_of(payload[0]), receiver(payload)).done(row)
+    }
 }
 
 fn put_heard(heard: Heard, row: Row) -> Row {
@@ -54,32 +132,11 @@ fn put_event(event: Event, row: Row) -> Row {
     }
 }
 
-// Payload: address. Where it is refused the receiver stays.
-pub(crate) fn new_station(mut bench: Bench, payload: &[u8], row: Row) -> Done {
-    if payload.len() < 1 {
-        return bench.short(row);
+fn line_of(byte: u8) -> Line {
+    match byte {
+        0 => Line::Point,
+        _ => Line::Addressed,
     }
-    let fresh = fresh_addressed(payload[0]);
-    let refusal = fresh.refusal;
-    if number(refusal) == 0 {
-        let receiver = fresh.receiver;
-        bench.addressed = receiver;
-    }
-    bench.done(row.refusal(refusal))
-}
-
-// Payload: line, address, phase, count, fill. Puts no field.
-pub(crate) fn set_receiver(mut bench: Bench, payload: &[u8], row: Row) -> Done {
-    if payload.len() < 6 {
-        return bench.short(row);
-    }
-    let receiver = receiver(payload);
-    if payload[0] == 0 {
-        bench.point = receiver;
-    } else {
-        bench.addressed = receiver;
-    }
-    bench.done(row)
 }
 
 fn receiver(payload: &[u8]) -> Receiver

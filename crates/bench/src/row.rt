@@ -1,6 +1,7 @@
 // The row that a record writes.
 use crate::buffer::MOST_ROOM;
 use crate::buffer::front;
+use ground::Counted;
 use ground::Refusal;
 use ground::number;
 use ground::put;
@@ -69,6 +70,12 @@ impl Row {
     // The number of a refusal; 0 for none.
     pub(crate) fn refusal(self, refusal: Refusal) -> Row {
         self.number(number(refusal) as usize)
+    }
+
+    // What a call counted.
+    pub(crate) fn counted(self, counted: Counted) -> Row {
+        let refusal = counted.refusal;
+        self.refusal(refusal).number(counted.count)
     }
 
     // A payload is shorter than its fixed part.

@@ -1,4 +1,4 @@
-// The frame writers. A writer's buffer is fresh for each record, and the payload begins with its room.
+// The writers of frames and of typed requests. A writer's buffer is fresh for each record, and the payload begins with its room.
 use crate::buffer::MOST_ROOM;
 use crate::buffer::UNTOUCHED;
 use crate::buffer::front_mut;
@@ -7,42 +7,67 @@ use crate::row::Row;
 use ground::Counted;
 use link::write_addressed;
 use link::write_point;
-use wire::image_length;
+use request::write_request;
+
+pub(crate) enum Writer {
+    Point,
+    Addressed,
+    Request,
+}
+
+// What a writer answered, unless the payload is shorter than its fixed part.
+enum Tried {
+    Short,
+    Written(Counted),
+}
+
+// Puts what the writer answered, and the buffer that it was lent.
+pub(crate) fn put_written(writer: Writer, payload: &[u8], row: Row) -> Row {
+    let mut buffer = [UNTOUCHED; MOST_ROOM];
+    let lent = front_mut(&mut buffer, room(payload));
+    let tried = write(writer, payload, lent);
+    match tried {
+        Tried::Short => row.short(),
+        Tried::Written(counted) => row.counted(counted).bytes(lent),
+    }
+}
+
+// The room that a payload begins with; none where it has no such number.
+fn room(payload: &[u8]) -> usize {
+    if payload.len() < 2 {
+        return 0;
+    }
+    number_at(payload, 0)
+}
+
+fn write(writer: Writer, payload: &[u8], out: &mut [u8]) -> Tried {
+    match writer {
+        Writer::Point => point(payload, out),
+        Writer::Addressed => addressed(payload, out),
+        Writer::Request => request(payload, out),
+    }
+}
 
 // Payload: room, identifier, command, data.
-pub(crate) fn put_point_frame(payload: &[u8], row: Row) -> Row {
+fn point(payload: &[u8], out: &mut [u8]) -> Tried {
     if payload.len() < 4 {
-        return row.short();
+        return Tried::Short;
     }
-    let room = number_at(payload, 0);
-    let mut buffer = [UNTOUCHED; MOST_ROOM];
-    let lent = front_mut(&mut buffer, room);
-    let written = write_point(payload[2], payload[3], &payload[4..], lent);
-    put_written(written, lent, row)
+    Tried::Written(write_point(payload[2], payload[3], &payload[4..], out))
 }
 
 // Payload: room, address, identifier, command, data.
-pub(crate) fn put_addressed_frame(payload: &[u8], row: Row) -> Row {
+fn addressed(payload: &[u8], out: &mut [u8]) -> Tried {
     if payload.len() < 5 {
-        return row.short();
+        return Tried::Short;
     }
-    let room = number_at(payload, 0);
-    let mut buffer = [UNTOUCHED; MOST_ROOM];
-    let lent = front_mut(&mut buffer, room);
-    let written = write_addressed(payload[2], payload[3], payload[4], &payload[5..], lent);
-    put_written(written, lent, row)
+    Tried::Written(write_addressed(payload[2], payload[3], payload[4], &payload[5..], out))
 }
 
-pub(crate) fn put_image_length(content: &[u8], row: Row) -> Row {
-    put_counted(image_length(content), row)
-}
-
-// What a writer answered, and the buffer that it was lent.
-pub(crate) fn put_written(written: Counted, buffer: &[u8], row: Row) -> Row {
-    put_counted(written, row).bytes(buffer)
-}
-
-fn put_counted(counted: Counted, row: Row) -> Row {
-    let refusal = counted.refusal;
-    row.refusal(refusal).number(counted.count)
+// Payload: room, identifier, code, data.
+fn request(payload: &[u8], out: &mut [u8]) -> Tried {
+    if payload.len() < 4 {
+        return Tried::Short;
+    }
+    Tried::Written(write_request(payload[2], payload[3], &payload[4..], out))
 }
