@@ -2,18 +2,16 @@
 -- 01, Refusal numbers. Assumes nothing.
 use mathlib.Core.Path.{_≡_}
 use mathlib.Core.Bool.{true, false}
-use mathlib.Core.List.{List, _++_}
+use mathlib.Core.List.{List}
 use mathlib.Core.Option.{none}
-use Prim.Native.Nat.{ℕ, _+_, _-_, _≤_, _<_}
+use Prim.Native.Nat.{ℕ, _-_, _≤_, _<_}
 use lib.ListN.{length}
 use Rattle.ground.specs.declared.refusal.Refusal.the-variants.{NoRoom, TooLong, BadState}
 use Rattle.ground.specs.Refusals.{refused, counted, Keeps, AnswersOnly}
 use Rattle.ground.specs.Laying.{unplaced, placed, put}
-use Rattle.checks.specs.declared.kind.Check.{Check}
-use Rattle.checks.specs.Check.{checkLength, withCheck}
 use Rattle.wire_spec.specs.Limits.{mostContent}
 use Rattle.wire_spec.specs.Image.{image, imageLength}
-use Rattle.wire_spec.specs.Writing.{After, notWritten, putting, lengthAsked, frameWritten}
+use Rattle.wire_spec.specs.Writing.{After, notWritten, putting, lengthAsked, imageWritten}
 use Rattle.link_spec.specs.declared.receiver.Receiver.{Receiver}
 use Rattle.link_spec.specs.Writers.{pointWritten, addressedWritten, PointTable, AddressedTable}
 use Rattle.link_spec.specs.Events.{NONE}
@@ -38,11 +36,8 @@ pub record RefusesByTable : Type 0 where
       × (length bytes ≤ length out - at → put bytes out at ≡ placed bytes out at)
   pub asksLength : (content : List ℕ) → (mostContent < length content → lengthAsked content ≡ refused TooLong)
       × (length content ≤ mostContent → lengthAsked content ≡ counted (imageLength content))
-  pub frame : (check : Check) (head «data» out : List ℕ) → let n = length head + length «data» + checkLength check in
-      let content = withCheck check (head ++ «data») in
-      (mostContent < n → frameWritten check head «data» out ≡ notWritten TooLong out)
-      × (n ≤ mostContent → length out < length (image content) → frameWritten check head «data» out ≡ notWritten NoRoom out)
-      × (n ≤ mostContent → length (image content) ≤ length out → frameWritten check head «data» out ≡ putting content out)
+  pub writesImage : (content out : List ℕ) → (length out < length (image content) → imageWritten content out ≡ notWritten NoRoom out)
+      × (length (image content) ≤ length out → imageWritten content out ≡ putting content out)
   pub point : (identifier command : ℕ) («data» out : List ℕ)
       → Decides (PointTable identifier command «data» out) (pointWritten identifier command «data» out)
   pub addressed : (address identifier command : ℕ) («data» out : List ℕ)
@@ -69,7 +64,7 @@ Writer writes =
 pub record RefusedChangesNothing : Type 0 where
   pub puts : (bytes out : List ℕ) (at : ℕ) → let e = put bytes out at in Keeps (e .refusal) out (e .out) × AnswersOnly (e .refusal) at (e .end)
   pub asksLength : (content : List ℕ) → AnswersOnly (lengthAsked content .refusal) 0 (lengthAsked content .count)
-  pub frame : (check : Check) (head «data» : List ℕ) → Writer (frameWritten check head «data»)
+  pub writesImage : (content : List ℕ) → Writer (imageWritten content)
   pub point : (identifier command : ℕ) («data» : List ℕ) → Writer (pointWritten identifier command «data»)
   pub addressed : (address identifier command : ℕ) («data» : List ℕ) → Writer (addressedWritten address identifier command «data»)
   -- what comes with the refusal of a new station is refused by every call

@@ -1,4 +1,5 @@
 // The frames of both lines, written.
+mod content;
 mod writer;
 
 pub use writer::write_addressed;

@@ -18,7 +18,7 @@ fn is_station(address: u8) -> bool
 }
 
 // Whether the station takes a frame with this address.
-pub(crate) fn takes(own: u8, address: u8) -> bool
+pub fn takes(own: u8, address: u8) -> bool
     ensures { λ r. ⌜ r ≡ takesOf own address ⌝ }
 {
     if own == MASTER {
@@ -31,7 +31,7 @@ pub(crate) fn takes(own: u8, address: u8) -> bool
 }
 
 // Whether a station may have its address; on the point line it has none.
-pub fn has_address(station: Station) -> bool
+pub(crate) fn has_address(station: Station) -> bool
     ensures { λ r. ⌜ r ≡ hasAddress station ⌝ }
 {
     match station {

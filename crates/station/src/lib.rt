@@ -1,7 +1,9 @@
-// The rules of a station: whether it may have its address, what a byte means to its receiver, and which event a stop byte tells.
+// A station: which address it may have, which it takes, and its receiver, fresh or outside a frame.
 mod address;
-mod rules;
+mod receiver;
 
-pub use address::has_address;
-pub use rules::at_byte;
-pub use rules::at_stop;
+pub use address::takes;
+pub use receiver::fresh_addressed;
+pub use receiver::fresh_point;
+pub use receiver::is_bad_state;
+pub use receiver::outside;

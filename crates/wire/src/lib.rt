@@ -1,10 +1,9 @@
-// Stuffing and wire images: the length of a content's image, and a frame put together and written.
-mod content;
+// Stuffing and wire images: the length of a content's image, and the image written.
 mod image;
 mod stuffing;
 
-pub use content::write_frame;
 pub use image::image_length;
+pub use image::write_image;
 pub use wire_spec::ESCAPE;
 pub use wire_spec::LAST_PARTNER;
 pub use wire_spec::MOST_CONTENT;

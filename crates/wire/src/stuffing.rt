@@ -1,10 +1,10 @@
-// A content stuffed, and how many of its bytes travel as two.
+// A content stuffed, and how long it is then.
 use wire_spec::ESCAPE;
 ghost use mathlib.Core.Path.{_≡_};
 ghost use Prim.Native.Nat.{_+_, _≤_};
 ghost use lib.ListN.{length};
 ghost use Rattle.ground.specs.Laying.{laid};
-ghost use Rattle.wire_spec.specs.Stuffing.{stuffed as stuffedOf, stuffing as stuffingOf, specials as specialsOf};
+ghost use Rattle.wire_spec.specs.Stuffing.{stuffed as stuffedOf, stuffing as stuffingOf};
 
 // FD, FE and FF are special: the last three of all bytes.
 const FIRST_SPECIAL: u8 = 0xFD;
@@ -37,17 +37,17 @@ pub(crate) fn stuff(content: &[u8], room: &mut [u8]) -> usize
     at
 }
 
-// How many bytes of `content` are FD, FE or FF.
-pub(crate) fn specials(content: &[u8]) -> usize
-    ensures { λ r. ⌜ r ≡ specialsOf (now (content .entry)) ⌝ }
+// How many bytes a content travels as: one for each of its bytes, and one more for each FD, FE and FF.
+pub(crate) fn stuffed_length(content: &[u8]) -> usize
+    ensures { λ r. ⌜ r ≡ length (stuffingOf (now (content .entry))) ⌝ }
 {
-    let mut count: usize = 0;
+    let mut length = content.len();
     let mut i: usize = 0;
     while i < content.len() {
         if content[i] >= FIRST_SPECIAL {
-            count += 1;
+            length += 1;
         }
         i += 1;
     }
-    count
+    length
 }

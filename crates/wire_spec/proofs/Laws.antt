@@ -3,6 +3,5 @@ pub mod Stuffing
 pub mod Unstuffing
 pub mod Image
 pub mod Writing
-pub mod Frame
 pub mod Unique
 pub mod Examples

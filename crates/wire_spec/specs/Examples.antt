@@ -5,7 +5,7 @@ use mathlib.Core.Path.{_≡_}
 use mathlib.Core.List.{List, [], _∷_}
 use Prim.Native.Nat.{ℕ}
 use lib.ListN.{replicate}
-use Rattle.wire_spec.specs.Writing.{lengthAsked, leaving, imageAsked}
+use Rattle.wire_spec.specs.Writing.{lengthAsked, leaving, imageWritten}
 
 pub data Example : Type 0 where
   -- the image of a content written to a buffer that held these bytes: the refusal, the count, and what it holds then
@@ -14,7 +14,7 @@ pub data Example : Type 0 where
   asks : (content : List ℕ) (refusal count : ℕ) → Example
 
 abbrev pub Holds : Example → Type 0
-Holds (writes content out refusal count left) = imageAsked content out ≡ leaving (record { refusal = refusal; count = count }) left
+Holds (writes content out refusal count left) = imageWritten content out ≡ leaving (record { refusal = refusal; count = count }) left
 Holds (asks content refusal count) = lengthAsked content ≡ record { refusal = refusal; count = count }
 
 abbrev pub examples : List Example

@@ -2,7 +2,7 @@
 -- 01, Layout of a frame, the last paragraph, and Refusal numbers. Assumes nothing.
 use Prim.Native.Nat.{ℕ}
 use mathlib.Core.Bool.{cond}
-use mathlib.Core.List.{List, _++_}
+use mathlib.Core.List.{List}
 use lib.Dec.{ltb}
 use lib.ListN.{length}
 use Rattle.ground.specs.declared.refusal.Refusal.{Refusal}
@@ -10,8 +10,6 @@ use Rattle.ground.specs.declared.refusal.Refusal.the-variants.{NoRoom, TooLong}
 use Rattle.ground.specs.declared.refusal.Counted.{Counted}
 use Rattle.ground.specs.Refusals.{Tally, tally as tallyOf, refused, counted}
 use Rattle.ground.specs.Laying.{onto}
-use Rattle.checks.specs.declared.kind.Check.{Check}
-use Rattle.checks.specs.Check.{withCheck}
 use Rattle.wire_spec.specs.Limits.{mostContent}
 use Rattle.wire_spec.specs.Image.{image, imageLength}
 
@@ -42,11 +40,3 @@ putting content out = leaving (counted (length (image content))) (onto (image co
 -- 01, Refusal numbers, row 1: out shorter than the image is NoRoom
 unfoldable pub imageWritten : List ℕ → List ℕ → After
 imageWritten content out = cond (ltb (length out) (length (image content))) (notWritten NoRoom out) (putting content out)
-
--- 01, Refusal numbers, row 2, in its sense: a content over 64 has no image to write, before the room for it is asked
-unfoldable pub imageAsked : List ℕ → List ℕ → After
-imageAsked content out = cond (ltb mostContent (length content)) (notWritten TooLong out) (imageWritten content out)
-
--- a frame put together of its head, its data and the check after them: the image of the content that these make
-unfoldable pub frameWritten : Check → List ℕ → List ℕ → List ℕ → After
-frameWritten check head «data» out = imageAsked (withCheck check (head ++ «data»)) out

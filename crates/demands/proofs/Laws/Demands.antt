@@ -1,12 +1,9 @@
 -- The three demands hold.
 -- Assumes nothing.
 use mathlib.Core.Path.{ap, _∙_}
-use mathlib.Core.List.{_++_}
 use Rattle.ground.proofs.Laws.Laying.{put-refused, put-placed, put-keeps}
 use Rattle.wire_spec.proofs.Laws.Unstuffing.{unstuffing-stuffing}
-use Rattle.checks.specs.Check.{withCheck}
-use Rattle.wire_spec.proofs.Laws.Writing.{length-refused, length-answered, written-short, written-whole}
-use Rattle.wire_spec.proofs.Laws.Frame.{frame-within, frame-over, frame-keeps}
+use Rattle.wire_spec.proofs.Laws.Writing.{length-refused, length-answered, written-short, written-whole, written-keeps}
 use Rattle.link_spec.specs.declared.station.Station.the-variants.{Point, Addressed}
 use Rattle.link_spec.specs.Receiving.{freshReceiver}
 use Rattle.link_spec.proofs.Laws.Frame.{point-residue}
@@ -35,7 +32,7 @@ use Rattle.tape_spec.proofs.Laws.Taping.{refuses-state, refuses-room, lists-chu
 use Rattle.tape_spec.proofs.Laws.Sessions.{listing-is, listing-shows, listing-some}
 use Rattle.demands.specs.Refusing.{RefusesByTable, RefusedChangesNothing}
 use Rattle.demands.specs.Demands.{Demand1, Demand2, Demand3}
-use Rattle.demands.proofs.Laws.Refusing.{put-stops, length-counts, frame-counts, point-counts, addressed-counts, request-counts, new-refused, received-silent, reply-meaningless, listed-counts}
+use Rattle.demands.proofs.Laws.Refusing.{put-stops, length-counts, image-counts, point-counts, addressed-counts, request-counts, new-refused, received-silent, reply-meaningless, listed-counts}
 use Rattle.demands.proofs.Laws.Exchange.{exchange, nack-exchange}
 use Rattle.demands.proofs.Laws.Requests.{request-executed, code-nacked, data-nacked}
 use Rattle.demands.proofs.Laws.Going.{receiver-goes-on, tape-goes-on}
@@ -45,11 +42,7 @@ refuses-by-table =
     record {
       puts = λ bytes out at. (put-refused bytes out at, put-placed bytes out at);
       asksLength = λ content. (length-refused content, length-answered content);
-      frame = λ check head «data» out. let content = withCheck check (head ++ «data») in (
-        frame-over check head «data» out,
-        (λ within short. frame-within check head «data» out within ∙ written-short content out short),
-        (λ within room. frame-within check head «data» out within ∙ written-whole content out room),
-      );
+      writesImage = λ content out. (written-short content out, written-whole content out);
       point = λ identifier command «data» out. record { row = point-by-table identifier command «data» out; only = point-only identifier command «data» out };
       addressed = λ address identifier command «data» out. record {
         row = addressed-by-table address identifier command «data» out;
@@ -75,7 +68,7 @@ refused-changes-nothing =
     record {
       puts = λ bytes out at. (put-keeps bytes out at, put-stops bytes out at);
       asksLength = length-counts;
-      frame = λ check head «data» out. (frame-keeps check head «data» out, frame-counts check head «data» out);
+      writesImage = λ content out. (written-keeps content out, image-counts content out);
       point = λ identifier command «data» out. (point-keeps identifier command «data» out, point-counts identifier command «data» out);
       addressed = λ address identifier command «data» out. (
         addressed-keeps address identifier command «data» out,

@@ -2,7 +2,7 @@
 -- Assumes nothing.
 use mathlib.Core.Path.{_≡_, refl}
 use mathlib.Core.Bool.{Bool, false, cond, not}
-use mathlib.Core.List.{List, _++_}
+use mathlib.Core.List.{List}
 use mathlib.Core.Option.{none}
 use Prim.Native.Nat.{ℕ, _-_}
 use lib.Dec.{ltb, eqb}
@@ -11,11 +11,9 @@ use Rattle.ground.specs.declared.refusal.Refusal.{Refusal}
 use Rattle.ground.specs.Refusals.{Tally, AnswersOnly}
 use Rattle.ground.specs.Laying.{Ended, put}
 use Rattle.ground.proofs.Laws.Choice.{cond-elim, by-test}
-use Rattle.checks.specs.declared.kind.Check.{Check}
-use Rattle.checks.specs.Check.{withCheck}
 use Rattle.wire_spec.specs.Limits.{mostContent}
 use Rattle.wire_spec.specs.Image.{image}
-use Rattle.wire_spec.specs.Writing.{After, lengthAsked, imageWritten, imageAsked, frameWritten}
+use Rattle.wire_spec.specs.Writing.{After, lengthAsked, imageWritten}
 use Rattle.link_spec.specs.declared.receiver.Receiver.{Receiver}
 use Rattle.link_spec.specs.declared.station.Station.the-variants.{Addressed}
 use Rattle.link_spec.specs.Limits.{mostData}
@@ -47,16 +45,10 @@ length-counts content =
     cond-elim (λ (t : Tally). AnswersOnly (t .refusal) 0 (t .count)) (ltb mostContent (length content)) (λ over refused. refl)
     (λ within refused. absurd (refused refl))
 
-image-counts : (content out : List ℕ) → Counts (imageWritten content out)
+pub image-counts : (content out : List ℕ) → Counts (imageWritten content out)
 unfolding imageWritten
 image-counts content out =
     cond-elim Counts (ltb (length out) (length (image content))) (λ short refused. refl) (λ fits refused. absurd (refused refl))
-
-pub frame-counts : (check : Check) (head «data» out : List ℕ) → Counts (frameWritten check head «data» out)
-unfolding frameWritten imageAsked
-frame-counts check head «data» out =
-    cond-elim Counts (ltb mostContent (length (withCheck check (head ++ «data»)))) (λ over refused. refl)
-    (λ within. image-counts (withCheck check (head ++ «data»)) out)
 
 writer-counts : (never : Bool) («data» content out : List ℕ) → Counts (writtenUnless never «data» content out)
 unfolding writtenUnless

@@ -7,7 +7,6 @@ use Prim.Native.Nat.{ℕ, _≤_}
 use lib.ListN.{length}
 use Rattle.ground.proofs.Laws.Choice.{by-test}
 use Rattle.link_spec.specs.Limits.{mostData}
-use Rattle.link_spec.specs.Events.{FRAME}
 use Rattle.request_spec.specs.declared.command.Command.{Command}
 use Rattle.request_spec.specs.declared.command.Acceptance.{Acceptance}
 use Rattle.request_spec.specs.declared.command.Acceptance.the-variants.{Accepted, Faulty}

@@ -2,9 +2,9 @@
 -- Assumes nothing.
 use mathlib.Core.Path.{_≡_, refl, sym, _∙_}
 use mathlib.Core.Bool.{Bool, true, false, true≢false, false≢true, not-eq-not}
-use mathlib.Core.List.{List, _++_}
+use mathlib.Core.List.{List}
 use mathlib.Core.Logic.{_↔_}
-use Prim.Native.Nat.{ℕ, _+_, _≤_, _<_}
+use Prim.Native.Nat.{ℕ, _≤_, _<_}
 use native.Mathlib.Omega.{arith}
 use lib.Dec.{ltb}
 use lib.ListN.{length}
@@ -12,14 +12,11 @@ use borrow.Author.Tests.{ltb-true, ltb-false, lt-ltb, le-ltb}
 use Rattle.ground.specs.declared.refusal.Refusal.the-variants.{NoRoom, TooLong, BadAddress}
 use Rattle.ground.specs.Refusals.{Keeps}
 use Rattle.ground.proofs.Laws.Choice.{cond-elim}
-use Rattle.checks.specs.declared.kind.Check.{Check}
-use Rattle.checks.specs.Check.{checkLength, withCheck}
 use Rattle.wire_spec.specs.Image.{image}
-use Rattle.wire_spec.specs.Writing.{After, notWritten, putting, imageWritten, frameWritten}
+use Rattle.wire_spec.specs.Writing.{After, notWritten, putting, imageWritten}
 use Rattle.wire_spec.proofs.Laws.Stuffing.{plain-is}
 use Rattle.wire_spec.proofs.Laws.Writing.{written-short, written-whole, written-keeps as image-keeps}
-use Rattle.wire_spec.proofs.Laws.Frame.{frame-within, frame-over}
-use Rattle.link_spec.specs.Limits.{leastContent, mostData}
+use Rattle.link_spec.specs.Limits.{mostData}
 use Rattle.link_spec.specs.Address.{isNever}
 use Rattle.link_spec.specs.Frame.{pointContent, addressedContent}
 use Rattle.link_spec.specs.Writers.{writtenUnless, pointWritten, addressedWritten, WriterTable, tooLong, badAddress, noRoom, frame, PointTable, AddressedTable}
@@ -84,16 +81,6 @@ module _ {Refused : Type 0} (never : Bool) (is : (never ≡ true) ↔ Refused) (
   table-only (badAddress fits bad) = sym (refuses-address never «data» content out fits (is .1 bad))
   table-only (noRoom fits good short) = sym (refuses-room never «data» content out fits (good-is good) short)
   table-only (frame fits good room) = sym (writes never «data» content out fits (good-is good) room)
-
--- a frame whose head makes the least content with its check is refused just where the data is over its limit: it is what a writer answers
--- that has no address to refuse
-pub frame-written : (check : Check) (head «data» out : List ℕ) → length head + checkLength check ≡ leastContent
-    → frameWritten check head «data» out ≡ writtenUnless false «data» (withCheck check (head ++ «data»)) out
-unfolding writtenUnless
-frame-written check head «data» out least =
-    cond-elim (λ (w : After). frameWritten check head «data» out ≡ w) (ltb mostData (length «data»))
-    (λ t. frame-over check head «data» out (omega (arith, ltb-true mostData (length «data») t)))
-    (λ f. frame-within check head «data» out (omega (arith, ltb-false mostData (length «data») f)))
 
 -- ---- the same of each writer
 

@@ -10,7 +10,7 @@ use Rattle.tape_spec.specs.declared.tape.Next.the-variants.{Full}
 use Rattle.tape_spec.specs.Limits.{mostRecords}
 use Rattle.tape_spec.specs.Whole.{kindOf, known, unknown, kind}
 use Rattle.tape_spec.specs.Taping.{awaited, afterKind}
-use Rattle.tape_spec.specs.Coming.{Coming, BODY, BAD, FULL, coming, isKind, comingAfter}
+use Rattle.tape_spec.specs.Coming.{BODY, BAD, FULL, coming, isKind, comingAfter}
 
 pub coming-after : (records k : ℕ) → coming (afterKind records k) ≡ comingAfter records k
 unfolding kind afterKind comingAfter

@@ -15,9 +15,10 @@ pub length-image : (content : List ℕ) → length (image content) ≡ imageLeng
 unfolding image imageLength
 length-image content = simp length-append (omega (arith, length-stuffing content))
 
-pub imageLength-stuffing : (content : List ℕ) → imageLength content ≡ 2 + length (stuffing content)
+-- that is start, stop and what is between them
+pub image-stuffing : (content : List ℕ) → length (image content) ≡ 2 + length (stuffing content)
 unfolding imageLength
-imageLength-stuffing content = omega (arith, length-stuffing content)
+image-stuffing content = omega (arith, length-image content, length-stuffing content)
 
 -- no image is longer than twice its content, and start and stop
 pub most-image : (content : List ℕ) → length (image content) ≤ 2 + 2 * length content

@@ -15,8 +15,8 @@ use Rattle.ground.proofs.Laws.Laying.{laid-next, laid-front, set-after}
 use Rattle.wire_spec.specs.Limits.{mostContent}
 use Rattle.wire_spec.specs.Stuffing.{stuffing}
 use Rattle.wire_spec.specs.Image.{start, stop, image, imageLength}
-use Rattle.wire_spec.specs.Writing.{lengthAsked, After, notWritten, putting, imageWritten, imageAsked}
-use Rattle.wire_spec.proofs.Laws.Image.{length-image, imageLength-stuffing}
+use Rattle.wire_spec.specs.Writing.{lengthAsked, After, notWritten, putting, imageWritten}
+use Rattle.wire_spec.proofs.Laws.Image.{image-stuffing}
 
 -- row 2 of the refusal table, of a length asked: when, and else it is the image's
 pub length-refused : (content : List ℕ) → mostContent < length content → lengthAsked content ≡ refused TooLong
@@ -34,7 +34,7 @@ pub image-laid : (content out : List ℕ) → length (image content) ≤ length 
 unfolding image
 image-laid content out h =
     let S = stuffing content in
-    let room : 2 + length S ≤ length out = omega (arith, imageLength-stuffing content, length-image content) in
+    let room : 2 + length S ≤ length out = omega (arith, image-stuffing content) in
     set-after (set out 0 start) 1 S stop (rw (length-set out 0 start) (omega arith))
     ∙ laid-next out 0 start (S ++ (stop ∷ [])) (omega arith)
     ∙ laid-front out (start ∷ S ++ (stop ∷ []))
@@ -48,25 +48,9 @@ pub written-whole : (content out : List ℕ) → length (image content) ≤ leng
 unfolding imageWritten
 written-whole content out fits = rw (le-ltb (length out) (length (image content)) fits)
 
--- where the content is within the limit, only the room for its image is asked
-pub asked-within : (content out : List ℕ) → length content ≤ mostContent → imageAsked content out ≡ imageWritten content out
-unfolding imageAsked
-asked-within content out within = rw (le-ltb mostContent (length content) within)
-
--- and where it is over the limit it is refused
-pub asked-over : (content out : List ℕ) → mostContent < length content → imageAsked content out ≡ notWritten TooLong out
-unfolding imageAsked
-asked-over content out over = rw (lt-ltb mostContent (length content) over)
-
 -- a refused call leaves the buffer as before
 pub written-keeps : (content out : List ℕ) → Keeps (imageWritten content out .tally .refusal) out (imageWritten content out .out)
 unfolding imageWritten
 written-keeps content out =
     cond-elim (λ (a : After). Keeps (a .tally .refusal) out (a .out)) (ltb (length out) (length (image content))) (λ short refused. refl)
     (λ fits refused. absurd (refused refl))
-
-pub asked-keeps : (content out : List ℕ) → Keeps (imageAsked content out .tally .refusal) out (imageAsked content out .out)
-unfolding imageAsked
-asked-keeps content out =
-    cond-elim (λ (a : After). Keeps (a .tally .refusal) out (a .out)) (ltb mostContent (length content)) (λ over refused. refl)
-    (λ within. written-keeps content out)

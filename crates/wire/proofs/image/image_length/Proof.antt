@@ -1,12 +1,13 @@
--- `image::image_length`: its test is that of `lengthAsked`, a content over the limit or not.
+-- `image::image_length`: its test is that of `lengthAsked`, and a content within the limit has no more than twice as many bytes stuffed.
 -- Assumes nothing.
-use Prim.Native.Nat.{_≤_, _<_}
+use mathlib.Core.Path.{sym, ap, _∙_}
+use Prim.Native.Nat.{ℕ, _+_}
 use native.Mathlib.Omega.{arith}
-use lib.ListN.{length}
-use borrow.Author.Tests.{lt-ltb, le-ltb}
 use borrow.Author.Needs.{needs}
-use Rattle.wire_spec.specs.Limits.{mostContent}
-use Rattle.wire_spec.specs.Writing.{lengthAsked}
+use Rattle.ground.specs.Refusals.{counted}
+use Rattle.wire_spec.proofs.Laws.Stuffing.{length-stuffing, specials-most}
+use Rattle.wire_spec.proofs.Laws.Image.{length-image, image-stuffing}
+use Rattle.wire_spec.proofs.Laws.Writing.{length-refused, length-answered}
 use Rattle.wire.proofs.image.image_length.Statement.{statement}
 use Rattle.wire.proofs.image.image_length.Tie as tie
 
@@ -14,23 +15,26 @@ refused-requires : tie.Need-refused-requires
 refused-requires c κs = search needs
 
 returns : tie.Need-returns
-unfolding lengthAsked
-returns c =
-    let h : mostContent < length (c .before .before .before .args .content .now) = omega arith in
-    simp (lt-ltb _ _ h) (c .refused .ensures)
+returns c = c .refused .ensures ∙ sym (length-refused (c .before .before .before .args .content .now) (omega arith))
 
-wire-length-requires : tie.Need-wire-length-requires
-wire-length-requires c κs = search needs
+stuffed-length-requires : tie.Need-stuffed-length-requires
+stuffed-length-requires c κs = search needs
+
+add-of : tie.Need-add-of
+add-of c =
+    let content = c .before .before .before .args .content .now in
+    omega (arith, c .stuffed-length .ensures, length-stuffing content, specials-most content)
 
 of-requires : tie.Need-of-requires
 of-requires c κs = search needs
 
 returns-2 : tie.Need-returns-2
-unfolding lengthAsked
 returns-2 c =
-    let h : length (c .before .before .before .before .args .content .now) ≤ mostContent = omega arith in
-    simp (le-ltb _ _ h, ← c .before .wire-length .ensures) (c .of .ensures)
+    let content = c .before .before .before .before .args .content .now in
+    c .of .ensures
+    ∙ ap counted (ap (λ (n : ℕ). 2 + n) (c .before .stuffed-length .ensures) ∙ sym (image-stuffing content) ∙ length-image content)
+    ∙ sym (length-answered content (omega arith))
 
 pub image-length-spec : {M : Type 1} → statement M
 image-length-spec =
-    tie.close (tie.spec refused-requires returns wire-length-requires of-requires returns-2)
+    tie.close (tie.spec refused-requires returns stuffed-length-requires add-of of-requires returns-2)

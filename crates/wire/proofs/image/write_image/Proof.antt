@@ -13,18 +13,18 @@ use Rattle.ground.proofs.Laws.Laying.{laid-part, length-laid}
 use Rattle.wire_spec.specs.Stuffing.{stuffing}
 use Rattle.wire_spec.specs.Image.{start, stop, image}
 use Rattle.wire_spec.specs.Writing.{leaving}
-use Rattle.wire_spec.proofs.Laws.Image.{length-image, imageLength-stuffing}
+use Rattle.wire_spec.proofs.Laws.Image.{image-stuffing}
 use Rattle.wire_spec.proofs.Laws.Writing.{image-laid, written-short, written-whole}
 use Rattle.wire.proofs.image.write_image.Statement.{statement}
 use Rattle.wire.proofs.image.write_image.Tie as tie
 
 -- there is room for start, stuffing and stop
-room : (c : tie.Else1) → let a = c .before .before .before .before .args in 2 + length (stuffing (a .content .now)) ≤ length (a .out .now)
-room c = omega (arith, imageLength-stuffing (c .before .before .before .before .args .content .now))
+room : (c : tie.Else2) → let a = c .before .before .before .before .before .args in 2 + length (stuffing (a .content .now)) ≤ length (a .out .now)
+room c = omega (arith, c .before .before .stuffed-length .ensures)
 
 -- from the place where the part lent for the stuffing is back: the call's entry, the buffer with start in it, and with that part too
 abbrev entry : tie.After-slice-known2 → tie.Start
-entry c = c .before .before .before .before .before .before .before .before
+entry c = c .before .before .before .before .before .before .before .before .before
 
 abbrev begun : tie.After-slice-known2 → List ℕ
 begun c = set (entry c .args .out .now) 0 start
@@ -42,8 +42,8 @@ back c = ap (putMid 1 (length (begun c) - 1) (begun c)) (c .before .before .stuf
 length-back : (c : tie.After-slice-known2) → length (whole c) ≡ length (entry c .args .out .now)
 length-back c = ap length (back c) ∙ length-laid (begun c) 1 _ (fits c) ∙ length-set (entry c .args .out .now) 0 start
 
-wire-length-requires : tie.Need-wire-length-requires
-wire-length-requires c κs = search needs
+stuffed-length-requires : tie.Need-stuffed-length-requires
+stuffed-length-requires c κs = search needs
 
 refused-requires : tie.Need-refused-requires
 refused-requires c κs = search needs
@@ -51,10 +51,22 @@ refused-requires c κs = search needs
 returns : tie.Need-returns
 returns c =
     let a = c .before .before .before .before .before .args in
-    rw (c .refused .ensures, written-short (a .content .now) (a .out .now) (omega (arith, length-image (a .content .now))))
+    rw (c .refused .ensures, written-short (a .content .now) (a .out .now) (omega (arith, image-stuffing (a .content .now))))
+
+sub-if2 : tie.Need-sub-if2
+sub-if2 c = search needs
+
+refused-requires-2 : tie.Need-refused-requires-2
+refused-requires-2 c κs = search needs
+
+returns-2 : tie.Need-returns-2
+returns-2 c =
+    let d = c .before .before .before in
+    let a = d .before .before .before .args in
+    rw (c .refused2 .ensures, written-short (a .content .now) (a .out .now) (omega (arith, d .stuffed-length .ensures, image-stuffing (a .content .now))))
 
 slice-write-out : tie.Need-slice-write-out
-slice-write-out c = omega (arith, room c)
+slice-write-out c = search needs
 
 sub-stuff : tie.Need-sub-stuff
 sub-stuff c = simp length-set (omega (arith, room c))
@@ -70,10 +82,14 @@ stuff-requires c κs =
     simp (length-take, length-drop, length-set) (omega (arith, room (c .before)))
 
 add-out : tie.Need-add-out
-add-out c = omega (arith, room (c .before .before .before .before))
+add-out c = search needs
 
 slice-write-out-2 : tie.Need-slice-write-out-2
-slice-write-out-2 c = omega (arith, room (c .before .before .before .before), length-back c)
+slice-write-out-2 c =
+    omega (arith, room (c .before .before .before .before), c .before .before .before .before .before .before .stuffed-length .ensures, length-back c)
+
+add-of : tie.Need-add-of
+add-of c = search needs
 
 of-requires : tie.Need-of-requires
 of-requires c κs = search needs
@@ -81,24 +97,28 @@ of-requires c κs = search needs
 same-length : tie.Need-same-length
 same-length c = rw (length-set _ _ stop) (length-back (c .before))
 
-returns-2 : tie.Need-returns-2
-returns-2 c =
-    let content = entry (c .before) .args .content .now in
-    let out = entry (c .before) .args .out .now in
-    let h : length (image content) ≤ length out = omega (arith, length-image content) in
+returns-3 : tie.Need-returns-3
+returns-3 c =
+    let d = c .before in
+    let content = entry d .args .content .now in
+    let out = entry d .args .out .now in
+    let stuffed = d .before .before .before .before .before .before .stuffed-length .ensures in
+    let h : length (image content) ≤ length out = omega (arith, room (d .before .before .before .before), image-stuffing content) in
     rw (written-whole content out h)
     (ap₂ leaving
-    (c .of .ensures ∙ ap counted (c .before .before .before .before .before .before .wire-length .ensures ∙ sym (length-image content)))
-    (ap₂ (λ (l : List ℕ) (k : ℕ). set l (1 + k) stop) (back (c .before)) (c .before .before .before .stuff .ensures .0)
-    ∙ image-laid content out h))
+    (c .of .ensures ∙ ap counted (ap (λ (n : ℕ). 2 + n) stuffed ∙ sym (image-stuffing content)))
+    (ap₂ (λ (l : List ℕ) (k : ℕ). set l (1 + k) stop) (back d) stuffed ∙ image-laid content out h))
 
 pub write-image-spec : {M : Type 1} → statement M
 write-image-spec =
     tie.close
     (tie.spec
-    wire-length-requires
+    stuffed-length-requires
     refused-requires
     returns
+    sub-if2
+    refused-requires-2
+    returns-2
     slice-write-out
     sub-stuff
     part-stuff-start
@@ -106,6 +126,7 @@ write-image-spec =
     stuff-requires
     add-out
     slice-write-out-2
+    add-of
     of-requires
     same-length
-    returns-2)
+    returns-3)
