@@ -1,5 +1,5 @@
 -- The three demands that the library keeps, as three propositions about the statements of its calls. `proofs/Laws/Demands` proves each.
--- Their words are those at the head of README; 01, 'How much each call must say', says what they have to rule out. Assumes nothing.
+-- README's head has them in plain words; 01, 'How much each call must say', says what they have to rule out. Assumes nothing.
 use mathlib.Core.Path.{_≡_}
 use mathlib.Core.Bool.{Bool, true, false}
 use mathlib.Core.List.{List, _∷_, _++_, List·Memᴰ}
@@ -10,13 +10,15 @@ use Rattle.ground.specs.declared.refusal.Counted.{Counted}
 use Rattle.ground.specs.Refusals.{number, tally}
 use Rattle.checks.specs.Fcs.{residue, goodResidue}
 use Rattle.wire_spec.specs.Stuffing.{stuffing, unstuffing}
-use Rattle.wire_spec.specs.Writing.{after}
+use Rattle.wire_spec.specs.Image.{image}
+use Rattle.wire_spec.specs.Writing.{after, putting}
 use Rattle.link_spec.specs.declared.station.Station.{Station}
 use Rattle.link_spec.specs.declared.station.Station.the-variants.{Point, Addressed}
 use Rattle.link_spec.specs.declared.receiver.Receiver.{Receiver}
 use Rattle.link_spec.specs.declared.receiver.Heard.{Heard}
-use Rattle.link_spec.specs.Address.{isStation, takes}
-use Rattle.link_spec.specs.Frame.{pointContent}
+use Rattle.link_spec.specs.Limits.{mostData}
+use Rattle.link_spec.specs.Address.{NoStation, takes}
+use Rattle.link_spec.specs.Frame.{pointContent, addressedContent}
 use Rattle.link_spec.specs.Writers.{pointWritten, addressedWritten}
 use Rattle.link_spec.specs.Events.{FRAME}
 use Rattle.link_spec.specs.Receiving.{saying, received}
@@ -59,9 +61,17 @@ pub record Demand1 : Type 0 where
   pub keeps : RefusedChangesNothing
 
 -- 2. Frames, check values, stuffing, typed replies and the reader's answers agree with the two line descriptions, for writing and for
--- reading. A request that repeats the identifier and command of the last one executed since power-on gets the stored reply and executes nothing.
--- (What each writer writes, and what the master reads in any reply, are the last rows of the tables of demand 1.)
+-- reading. A request that repeats the identifier and command of the last one executed since power-on, whatever its data, gets the stored reply and
+-- executes nothing. (What the master reads in any reply is in its table, of demand 1.)
 pub record Demand2 : Type 0 where
+  -- what a frame can carry is written where there is room: the image in front, its length as the count, later bytes as they were
+  pub pointWrites : (identifier command : ℕ) («data» out : List ℕ) → let content = pointContent identifier command «data» in
+      length «data» ≤ mostData → length (image content) ≤ length out → pointWritten identifier command «data» out ≡ putting content out
+  pub addressedWrites : (address identifier command : ℕ) («data» out : List ℕ) → let content = addressedContent address identifier command «data» in
+      address ≤ 0xFC → length «data» ≤ mostData → length (image content) ≤ length out
+      → addressedWritten address identifier command «data» out ≡ putting content out
+  pub requestWrites : (identifier code : ℕ) («data» out : List ℕ) {command : Command} → let content = pointContent identifier code «data» in
+      Accepts code «data» command → length (image content) ≤ length out → requestWritten identifier code «data» out ≡ putting content out
   -- what was written and not refused is heard wherever it stands, with the fields that were written
   pub pointHeard : (r : Counted) (identifier command : ℕ) («data» out out′ before rest : List ℕ) {s : Receiver} {all : List Told}
       → after r out′ ≡ pointWritten identifier command «data» out → tally r .refusal ≡ 0 → IsFresh Point s
@@ -114,7 +124,7 @@ pub record Demand3 : Type 0 where
   pub goesOn : {station : Station} {s : Receiver} → ReachedReceiver station s → (piece : List ℕ) (r : Heard) → saying r ≡ received s piece → TakesPiece s piece r
   -- there is a fresh receiver of either kind, and a hearing of every stream
   pub point : (s : Receiver) × IsFresh Point s
-  pub station : (own : ℕ) → isStation own ≡ true → (s : Receiver) × IsFresh (Addressed own) s
+  pub station : (own : ℕ) → (NoStation own → ⊥) → (s : Receiver) × IsFresh (Addressed own) s
   pub some : {station : Station} {s : Receiver} → IsFresh station s → (stream : List ℕ) → (all : List Told) × Hearing stream s 0 all
   -- a tape's listing is the same however it was handed over, and its FRAME rows are those of what stands in what was heard on their line
   pub tape : {bytes text : List ℕ} → Listing bytes text → let p = parts 0 bytes in

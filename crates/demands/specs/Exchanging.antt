@@ -22,9 +22,9 @@ use Rattle.reader_spec.specs.declared.reader.Reader.{Reader}
 use Rattle.reader_spec.specs.State.{stateOf}
 use Rattle.reader_spec.specs.Asking.{asking}
 use Rattle.reader_spec.specs.Replies.{IsAnswer, replyImage, replyTo}
-use Rattle.reader_spec.specs.Answering.{LentWell, Unfit}
+use Rattle.reader_spec.specs.Answering.{LentWell, Unfit, answerSays}
 use Rattle.reader_spec.specs.Sessions.{History, repeats, bytesOf, repeatsLast, asksFor, judgedHistory, toSend, isRepeat, isExecuted, Call, Done, bytesSent, ReaderSession}
-use Rattle.reader_spec.specs.Promises.{Recalls}
+use Rattle.reader_spec.specs.Promises.{Unchanged, Recalls}
 
 module _ {alone : Bool} {h : History} {s : Reader} {held : List ℕ} (c : Call alone h s held) where
   -- a call is given this request, as a FRAME that repeats nothing, with good buffers
@@ -43,16 +43,15 @@ module _ {alone : Bool} {h : History} {s : Reader} {held : List ℕ} (c : Call a
     pub reply : IsAnswer (replyTo (h .value) command (c .input .header) (c .input .antenna))
     pub goesOn : ReaderSession alone (c .answer .reader) (c .left .store) (judgedHistory h (c .input) (Accepted command))
 
-  -- neither the reader's state nor the store changed
-  pub record Unchanged : Type 0 where
-    pub state : stateOf (c .answer .reader) ≡ stateOf s
-    pub kept : c .left .store ≡ c .lent .store
+  -- it changed neither the reader's state nor the store
+  abbrev pub ChangesNothing : Type 0
+  ChangesNothing = Unchanged (stateOf s) (c .lent) (answerSays (c .answer) (c .left))
 
   -- it answered the request with the NACK of this number, and nothing else
   pub record RequestNacked (n : ℕ) : Type 0 where
     pub done : Done c
     pub sends : bytesSent c ≡ replyImage (identifierOf (c .input .content)) sign (NACK n)
-    pub unchanged : Unchanged
+    pub unchanged : ChangesNothing
 
 -- a reply sent in these bytes is heard, and the master that made this request reads in it what it is
 pub record HeardAndRead (identifier code : ℕ) («data» before : List ℕ) (all : List Told) (bytes : List ℕ) (reply : Reply) : Type 0 where
@@ -75,12 +74,12 @@ pub record WellAnswered {alone : Bool} {h : History} {s : Reader} {held : List �
       → ((other : List ℕ) (command : Command) → Accepts code other command → ⊥)
       → length «data» ≤ mostData
       → RequestNacked c 2
-  pub nacksData : (identifier code : ℕ) («data» other : List ℕ) {some : Command} → Asks c identifier code «data» → Accepts code other some
+  pub nacksData : (identifier code : ℕ) («data» other : List ℕ) {known : Command} → Asks c identifier code «data» → Accepts code other known
       → ((command : Command) → Accepts code «data» command → ⊥)
       → length «data» ≤ mostData
       → RequestNacked c 3
   -- a call that executes nothing, as at a CHECK or where there is no answer, changes neither state nor store
-  pub keeps : (Done c → isExecuted h (c .input) ≡ false) → Unchanged c
+  pub keeps : (Done c → isExecuted h (c .input) ≡ false) → ChangesNothing c
   -- the reply to a request that is executed is heard wherever it stands, and read by the master as what it is
   pub read : (identifier code : ℕ) («data» before rest : List ℕ) {command : Command} {m : Receiver} {all : List Told} → Asks c identifier code «data»
       → RequestExecuted c command

@@ -15,7 +15,7 @@ use Rattle.wire_spec.specs.Writing.{After, notWritten, putting, lengthAsked, im
 use Rattle.link_spec.specs.declared.receiver.Receiver.{Receiver}
 use Rattle.link_spec.specs.Writers.{pointWritten, addressedWritten, PointTable, AddressedTable}
 use Rattle.link_spec.specs.Events.{NONE}
-use Rattle.link_spec.specs.Receiving.{freshMade, NewTable, received, ReceiverTable}
+use Rattle.link_spec.specs.Receiving.{freshMade, NewTable, received, BadReceiver, ReceiverTable}
 use Rattle.request_spec.specs.Requesting.{requestWritten, RequestTable}
 use Rattle.request_spec.specs.Reading.{replyRead, MasterTable}
 use Rattle.reader_spec.specs.State.{State}
@@ -44,6 +44,7 @@ pub record RefusesByTable : Type 0 where
       → Decides (AddressedTable address identifier command «data» out) (addressedWritten address identifier command «data» out)
   pub station : (own : ℕ) → Decides (NewTable own) (freshMade own)
   pub receiver : (s : Receiver) (piece : List ℕ) → Decides (ReceiverTable s piece) (received s piece)
+  pub receives : (s : Receiver) (piece : List ℕ) → (BadReceiver s → ⊥) → received s piece .refusal ≡ 0
   pub request : (identifier code : ℕ) («data» out : List ℕ)
       → Decides (RequestTable identifier code «data» out) (requestWritten identifier code «data» out)
   pub reader : (s : State) (i : Input) (lent : Buffers) → Decides (ReaderTable s i lent) (answered s i lent)

@@ -1,4 +1,4 @@
-// The two serial lines of ProX card readers: the receiver of either and, handed on, the writers of their frames.
+// The two serial lines of ProX card readers: what a receiver of either hears and, handed on, fresh receivers and the writers of frames.
 mod receiver;
 
 pub use frame::write_addressed;

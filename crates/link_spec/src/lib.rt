@@ -1,5 +1,5 @@
 // What stations write and hear, as types alone: a station, what one byte makes a receiver do, the receiver's state, and what it tells. What is
-// so is in specs/; the crates `frame`, `station` and `link` do it.
+// so is in specs/; the crates `frame`, `station`, `rules` and `link` do it.
 mod event;
 mod receiver;
 mod station;

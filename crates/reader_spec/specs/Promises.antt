@@ -7,7 +7,9 @@ use mathlib.Core.List.{List}
 use lib.ListN.{take}
 use Rattle.request_spec.specs.declared.parameter.Parameter.{Parameter}
 use Rattle.reader_spec.specs.declared.reader.Reader.{Reader}
-use Rattle.reader_spec.specs.State.{stateOf}
+use Rattle.reader_spec.specs.State.{State, stateOf}
+use Rattle.reader_spec.specs.Sending.{Buffers}
+use Rattle.reader_spec.specs.Answering.{Answered}
 use Rattle.reader_spec.specs.Sessions.{History, remembers, Call, bytesSent, ReaderSession}
 
 -- after calls that execute nothing the reader's state is the same, what is remembered of the store too if nobody else wrote to it, and the
@@ -16,6 +18,11 @@ pub record Same (alone : Bool) (h : History) (s : Reader) (held : List ℕ) (t :
   pub session : ReaderSession false t kept h
   pub state : stateOf t ≡ stateOf s
   pub store : alone ≡ true → take (remembers (h .last)) kept ≡ take (remembers (h .last)) held
+
+-- a call's answer has the state, and left the store, as they were before
+pub record Unchanged (s : State) (lent : Buffers) (a : Answered) : Type 0 where
+  pub state : a .state ≡ s
+  pub store : a .left .store ≡ lent .store
 
 -- a repeat changes no state and no byte of a buffer, and sends what the remembered bytes of the store hold at that moment
 pub record Recalls {alone : Bool} {h : History} {s : Reader} {held : List ℕ} (c : Call alone h s held) : Type 0 where

@@ -30,7 +30,7 @@ pub fn takes(own: u8, address: u8) -> bool
     address == BROADCAST
 }
 
-// Whether a station may have its address; on the point line it has none.
+// Whether a station may have its address. On the point line it has none, and none that is wrong.
 pub(crate) fn has_address(station: Station) -> bool
     ensures { λ r. ⌜ r ≡ hasAddress station ⌝ }
 {

@@ -4,6 +4,6 @@ use Prim.Native.Nat.{ℕ, _+_, _*_}
 abbrev pub mostContent : ℕ
 mostContent = 64
 
--- the longest image: start, stop, and two bytes for each of the content. 01, The point reader: at least 130 bytes
+-- a frame's longest image: start, stop, and two bytes for each of the content. 01, The point reader: at least 130 bytes
 abbrev pub mostImage : ℕ
 mostImage = 2 + 2 * mostContent

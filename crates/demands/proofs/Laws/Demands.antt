@@ -1,19 +1,20 @@
 -- The three demands hold.
 -- Assumes nothing.
-use mathlib.Core.Path.{ap, _∙_}
+use mathlib.Core.Path.{sym, ap, _∙_}
 use Rattle.ground.proofs.Laws.Laying.{put-refused, put-placed, put-keeps}
 use Rattle.wire_spec.proofs.Laws.Unstuffing.{unstuffing-stuffing}
 use Rattle.wire_spec.proofs.Laws.Writing.{length-refused, length-answered, written-short, written-whole, written-keeps}
 use Rattle.link_spec.specs.declared.station.Station.the-variants.{Point, Addressed}
 use Rattle.link_spec.specs.Receiving.{freshReceiver}
 use Rattle.link_spec.proofs.Laws.Frame.{point-residue}
-use Rattle.link_spec.proofs.Laws.Writers.{point-by-table, point-only, addressed-by-table, addressed-only, point-keeps, addressed-keeps}
+use Rattle.link_spec.proofs.Laws.Writers.{point-by-table, point-only, point-writes, addressed-by-table, addressed-only, addressed-writes, point-keeps, addressed-keeps}
 use Rattle.link_spec.proofs.Laws.Receiving as receiving
 use Rattle.link_spec.proofs.Laws.Receiving.{received-keeps}
 use Rattle.link_spec.proofs.Laws.Fresh.{refuses-new, new-only, fresh-point, fresh-station}
 use Rattle.link_spec.proofs.Laws.Hearing.{hearing-some}
 use Rattle.link_spec.proofs.Laws.Demand.{hearing-lists, cuts-free}
 use Rattle.link_spec.proofs.Laws.Listed.{point-listed, addressed-listed}
+use Rattle.request_spec.specs.Requesting.{frame}
 use Rattle.request_spec.proofs.Laws.Requesting as requesting
 use Rattle.request_spec.proofs.Laws.Requesting.{request-keeps, request-heard}
 use Rattle.request_spec.proofs.Laws.Reading as reading
@@ -32,7 +33,7 @@ use Rattle.tape_spec.proofs.Laws.Taping.{refuses-state, refuses-room, lists-chu
 use Rattle.tape_spec.proofs.Laws.Sessions.{listing-is, listing-shows, listing-some}
 use Rattle.demands.specs.Refusing.{RefusesByTable, RefusedChangesNothing}
 use Rattle.demands.specs.Demands.{Demand1, Demand2, Demand3}
-use Rattle.demands.proofs.Laws.Refusing.{put-stops, length-counts, image-counts, point-counts, addressed-counts, request-counts, new-refused, received-silent, reply-meaningless, listed-counts}
+use Rattle.demands.proofs.Laws.Refusing.{put-stops, length-counts, image-counts, point-counts, addressed-counts, request-counts, new-refused, received-silent, received-unrefused, reply-meaningless, listed-counts}
 use Rattle.demands.proofs.Laws.Exchange.{exchange, nack-exchange}
 use Rattle.demands.proofs.Laws.Requests.{request-executed, code-nacked, data-nacked}
 use Rattle.demands.proofs.Laws.Going.{receiver-goes-on, tape-goes-on}
@@ -50,6 +51,7 @@ refuses-by-table =
       };
       station = λ own. record { row = refuses-new own; only = new-only };
       receiver = λ s piece. record { row = receiving.by-table s piece; only = receiving.table-only s piece };
+      receives = received-unrefused;
       request = λ identifier code «data» out. record {
         row = requesting.by-table identifier code «data» out;
         only = requesting.table-only identifier code «data» out;
@@ -89,6 +91,9 @@ demand-1 = record { refuses = refuses-by-table; keeps = refused-changes-nothing 
 pub demand-2 : Demand2
 demand-2 =
     record {
+      pointWrites = point-writes;
+      addressedWrites = addressed-writes;
+      requestWrites = λ identifier code «data» out asked room. sym (requesting.table-only identifier code «data» out (frame asked room));
       pointHeard = point-listed;
       addressedHeard = addressed-listed;
       requestHeard = request-heard;
@@ -101,7 +106,7 @@ demand-2 =
         executes = λ identifier code «data» asks row. request-executed se c identifier code «data» asks row;
         nacksCode = λ identifier code «data» asks none. code-nacked se c identifier code «data» asks none;
         nacksData = λ identifier code «data» other asks row none. data-nacked se c identifier code «data» asks other row none;
-        keeps = λ idle. let u = call-keeps se c idle in record { state = u .state; kept = u .kept };
+        keeps = call-keeps se c;
         read = exchange se c;
       };
       begins = λ alone store. (readerWith freshState, fresh-session store);
@@ -119,7 +124,7 @@ demand-3 =
       cuts = cuts-free;
       goesOn = receiver-goes-on;
       point = (freshReceiver Point, fresh-point);
-      station = λ own is. (freshReceiver (Addressed own), fresh-station own is);
+      station = λ own good. (freshReceiver (Addressed own), fresh-station own good);
       some = hearing-some;
       tape = λ {bytes} l. let shows = listing-shows l in (entries 0 freshReceivers (parts 0 bytes .records), shows .0, shows .1);
       tapeCuts = listing-is;

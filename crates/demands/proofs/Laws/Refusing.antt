@@ -1,7 +1,7 @@
 -- A refused call answers count 0, no event, an empty part: the statements' refusals one by one.
 -- Assumes nothing.
-use mathlib.Core.Path.{_≡_, refl}
-use mathlib.Core.Bool.{Bool, false, cond, not}
+use mathlib.Core.Path.{_≡_, refl, ap, _∙_}
+use mathlib.Core.Bool.{Bool, true, false, cond, not, not-eq-not}
 use mathlib.Core.List.{List}
 use mathlib.Core.Option.{none}
 use Prim.Native.Nat.{ℕ, _-_}
@@ -21,8 +21,8 @@ use Rattle.link_spec.specs.Address.{isNever, isStation}
 use Rattle.link_spec.specs.Frame.{pointContent, addressedContent}
 use Rattle.link_spec.specs.Writers.{writtenUnless, pointWritten, addressedWritten}
 use Rattle.link_spec.specs.Events.{NONE}
-use Rattle.link_spec.specs.Receiving.{freshReceiver, freshMade, badReceiver, notHeard, heard, Said, received}
-use Rattle.link_spec.proofs.Laws.Receiving.{refused-only}
+use Rattle.link_spec.specs.Receiving.{freshReceiver, freshMade, badReceiver, notHeard, heard, Said, received, BadReceiver}
+use Rattle.link_spec.proofs.Laws.Receiving.{bad-is, refused-only}
 use Rattle.request_spec.specs.declared.command.Command.{Command}
 use Rattle.request_spec.specs.declared.command.Acceptance.{Acceptance}
 use Rattle.request_spec.specs.declared.command.Acceptance.the-variants.{Accepted, Faulty}
@@ -90,6 +90,11 @@ received-silent s piece =
     (badReceiver s) (λ bad is. ((λ refused. refl), (λ refused. refl), (λ refused. refl)))
     (λ good none. ((λ refused. absurd (refused none)), (λ refused. absurd (refused none)), (λ refused. absurd (refused none))))
     (refused-only s piece)
+
+-- and no receiver is refused but for row 4
+pub received-unrefused : (s : Receiver) (piece : List ℕ) → (BadReceiver s → ⊥) → received s piece .refusal ≡ 0
+received-unrefused s piece good =
+    refused-only s piece ∙ ap (λ (t : Bool). cond t 4 0) (not-eq-not {b = false} .0 (λ (bad : badReceiver s ≡ true). good (bad-is s .0 bad)))
 
 -- a receiver that comes with the refusal of a new station is refused by every call
 pub new-refused : (own : ℕ) (piece : List ℕ) → (freshMade own .refusal ≡ 0 → ⊥) → received (freshMade own .receiver) piece .refusal ≡ 4

@@ -73,7 +73,7 @@ module _ {alone : Bool} {s : Reader} {held : List ℕ} {h : History} (se : Reade
       record {
         done = fine;
         sends = session-replies se c fine (asks .event) new (asked-is ∙ asked);
-        unchanged = record { state = ap (λ (a : Answered). a .state) judged; kept = ap (λ (a : Answered). a .left .store) judged };
+        unchanged = record { state = ap (λ (a : Answered). a .state) judged; store = ap (λ (a : Answered). a .left .store) judged };
       }
 
   -- any other, if a frame can carry it, is answered NACK 2 where no row has its code

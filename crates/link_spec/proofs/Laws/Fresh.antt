@@ -10,7 +10,7 @@ use Rattle.ground.proofs.Laws.Choice.{by-test}
 use Rattle.link_spec.specs.declared.station.Station.{Station}
 use Rattle.link_spec.specs.declared.station.Station.the-variants.{Point, Addressed}
 use Rattle.link_spec.specs.declared.receiver.Receiver.{Receiver}
-use Rattle.link_spec.specs.Address.{isStation}
+use Rattle.link_spec.specs.Address.{isStation, NoStation}
 use Rattle.link_spec.specs.Station.{hasAddress}
 use Rattle.link_spec.specs.Receiving.{freshReceiver, Made, freshMade, badReceiver, NewTable, badAddress, fresh}
 use Rattle.link_spec.specs.Hearing.{IsFresh, point, addressed}
@@ -39,9 +39,11 @@ receiver-made own = refl
 pub fresh-point : IsFresh Point (freshReceiver Point)
 fresh-point = point refl
 
-pub fresh-station : (own : ℕ) → isStation own ≡ true → IsFresh (Addressed own) (freshReceiver (Addressed own))
+pub fresh-station : (own : ℕ) → (NoStation own → ⊥) → IsFresh (Addressed own) (freshReceiver (Addressed own))
 unfolding freshMade
-fresh-station own good = addressed (record { refusal = None; receiver = freshReceiver (Addressed own) }) {own = own} (rw good) refl
+fresh-station own good =
+    let is : isStation own ≡ true = not-eq-not {b = true} .0 (λ none. good (no-station-is own .0 none)) in
+    addressed (record { refusal = None; receiver = freshReceiver (Addressed own) }) {own = own} (rw is) refl
 
 -- a receiver of this station that no row of the refusal table names, outside a frame
 pub record Begins (station : Station) (s : Receiver) : Type 0 where

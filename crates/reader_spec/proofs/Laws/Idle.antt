@@ -21,7 +21,7 @@ use Rattle.reader_spec.specs.Asking.{asking}
 use Rattle.reader_spec.specs.Sending.{Buffers}
 use Rattle.reader_spec.specs.Answering.{Input, Answered, answerSays, judged, stepped}
 use Rattle.reader_spec.specs.Sessions.{Execution, History, repeatsLast, asksFor, judgedHistory, nextHistoryAs, nextHistory, isExecutedAs, isExecuted, remembers, StoreKept, Call, Done, ReaderSession, called, Idle, rests, passes}
-use Rattle.reader_spec.specs.Promises.{Same}
+use Rattle.reader_spec.specs.Promises.{Unchanged, Same}
 use Rattle.reader_spec.proofs.Laws.Answering.{row-elim, steps-fine}
 use Rattle.reader_spec.proofs.Laws.Agreeing.{memoryOf, recalledAs, judgedAs, framed-told}
 use Rattle.reader_spec.proofs.Laws.Sessions.{session-agrees, loose-call}
@@ -44,23 +44,19 @@ executes-nothing h i = executes-nothing-as h i (asking (i .event))
 
 -- ---- and changes neither the state nor the store
 
-pub record Unchanged (s : State) (lent : Buffers) (a : Answered) : Type 0 where
-  pub state : a .state ≡ s
-  pub kept : a .left .store ≡ lent .store
-
 module _ (s : State) (i : Input) (lent : Buffers) where
   judged-keeps : (k : Acceptance) → isAccepted k ≡ false → Unchanged s lent (judged s i lent k)
-  judged-keeps (Faulty fault) idle = record { state = refl; kept = refl }
+  judged-keeps (Faulty fault) idle = record { state = refl; store = refl }
   judged-keeps (Accepted command) idle = absurd (true≢false idle)
 
   recalled-keeps : (last : Option Execution) → Unchanged s lent (recalledAs s lent last)
-  recalled-keeps none = record { state = refl; kept = refl }
-  recalled-keeps (some e) = record { state = refl; kept = refl }
+  recalled-keeps none = record { state = refl; store = refl }
+  recalled-keeps (some e) = record { state = refl; store = refl }
 
   step-keeps : (asked : Asking) (h : History) → s .last ≡ memoryOf (h .last) → isExecutedAs h i asked ≡ false
       → Unchanged s lent (stepped s i lent asked)
-  step-keeps Nothing h remembered idle = record { state = refl; kept = refl }
-  step-keeps Wrong h remembered idle = record { state = refl; kept = refl }
+  step-keeps Nothing h remembered idle = record { state = refl; store = refl }
+  step-keeps Wrong h remembered idle = record { state = refl; store = refl }
   step-keeps Right h remembered idle =
       subst⁻¹ (Unchanged s lent) (framed-told s i lent (h .last) remembered)
       (by-test
@@ -74,7 +70,7 @@ call-keeps {h = h} {s = s} se c idle =
     subst⁻¹ (Unchanged (stateOf s) (c .lent)) (c .says)
     (row-elim (stateOf s) (c .input) (c .lent)
     (λ (a : Answered). (a .refusal ≡ 0 → isExecuted h (c .input) ≡ false) → Unchanged (stateOf s) (c .lent) a)
-    (λ _ _ _. record { state = refl; kept = refl })
+    (λ _ _ _. record { state = refl; store = refl })
     (λ well _ idle. step-keeps (stateOf s) (c .input) (c .lent) (asking (c .input .event)) h (session-agrees se .memory)
     (idle (steps-fine (stateOf s) (c .input) (c .lent) (asking (c .input .event)))))
     (λ none. idle (ap (λ (a : Answered). a .refusal) (c .says) ∙ none)))
@@ -98,5 +94,5 @@ idle-keeps {alone} {h = h} se (passes {t} {kept} i c idle) =
     record {
       session = subst (ReaderSession false (c .answer .reader) (c .left .store)) told (called (same .session) (loose-call c));
       state = u .state ∙ same .state;
-      store = λ single. ap (take (remembers (h .last))) (u .kept) ∙ kept-same alone h kept (c .lent .store) (c .kept) single ∙ same .store single;
+      store = λ single. ap (take (remembers (h .last))) (u .store) ∙ kept-same alone h kept (c .lent .store) (c .kept) single ∙ same .store single;
     }

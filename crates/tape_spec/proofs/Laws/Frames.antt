@@ -2,7 +2,7 @@
 -- Assumes nothing.
 use mathlib.Core.Path.{_≡_, refl, sym, ap, subst⁻¹, _∙_}
 use mathlib.Core.Logic.{⊎-elim}
-use mathlib.Core.Bool.{false}
+use mathlib.Core.Bool.{false, true≢false}
 use mathlib.Core.List.{List, [], _∷_, _++_, append-assoc}
 use mathlib.Core.List.{List·Memᴰ, List·Memᴰ·head, List·Memᴰ·tail, List·Memᴰ·not-nil, List·Memᴰ·cases-cons}
 use Prim.Native.Nat.{ℕ, _+_, _≤_}
@@ -15,6 +15,7 @@ use Rattle.link_spec.specs.Events.{Name, FRAME, happened}
 use Rattle.link_spec.specs.Receiving.{Said, badReceiver, received}
 use Rattle.link_spec.specs.Hearing.{Told, toldAt, note, IsFresh, Hearing, over}
 use Rattle.link_spec.specs.Listing.{Lists}
+use Rattle.link_spec.proofs.Laws.Address.{no-station-is}
 use Rattle.link_spec.proofs.Laws.Receiving.{stays-good}
 use Rattle.link_spec.proofs.Laws.Bytes.{note-some, note-none, hearing-byte}
 use Rattle.link_spec.proofs.Laws.Fresh.{fresh-point, fresh-station, fresh-good}
@@ -65,7 +66,7 @@ hears stream (b ∷ bs) p s good left =
 
 fresh-on : (line : Line) → IsFresh (stationOn line) (receiverOn line freshReceivers)
 fresh-on Point = fresh-point
-fresh-on Addressed = fresh-station 0x00 refl
+fresh-on Addressed = fresh-station 0x00 (λ none. true≢false (no-station-is 0x00 .1 none))
 
 told-lists : (line : Line) (stream : List ℕ) → Lists (stationOn line) stream (told 0 (receiverOn line freshReceivers) stream)
 told-lists line stream =
