@@ -1,3 +1,3 @@
--- What the functions inside this library promise each other. What its calls put is said in `tape_spec`: Rows, and `lastRowOf` in Taping.
+-- What the functions inside this library promise each other. What its call puts is said in `tape_spec`, Rows.
 pub mod Words
 pub mod Heads

@@ -1,5 +1,4 @@
 // The row of an event.
-use crate::word::Word;
 use ground::Placed;
 use ground::Refusal;
 use ground::put;
@@ -118,6 +117,15 @@ fn letter(line: Line) -> [u8; 3]
         Line::Point => POINT,
         Line::Addressed => ADDRESSED,
     }
+}
+
+// Places for the longest name of an event and the blank after it.
+const MOST_WORD: usize = 6;
+
+// A name and the blank after it: they stand in the first `length` places.
+struct Word {
+    letters: [u8; MOST_WORD],
+    length: usize,
 }
 
 const NONE: Word = Word {

@@ -3,10 +3,10 @@ mod chunk;
 mod run;
 
 pub use chunk::list;
+pub use ends::write_header;
+pub use ends::write_last;
 pub use reel::fresh_tape;
 pub use reel::is_over;
-pub use rows::write_header;
-pub use rows::write_last;
 pub use tape_spec::LEAST_ROOM;
 pub use tape_spec::Listed;
 pub use tape_spec::MOST_RECORDS;

@@ -1,10 +1,10 @@
--- `ends::write_header`: the text that is put is that of `headerRow`.
+-- `header::write_header`: the text that is put is that of `headerRow`.
 -- Assumes nothing.
 use borrow.Author.Needs.{needs}
 use Rattle.text.specs.Ascii.{ascii}
 use Rattle.tape_spec.specs.Rows.{headerRow}
-use Rattle.rows.proofs.ends.write_header.Statement.{statement}
-use Rattle.rows.proofs.ends.write_header.Tie as tie
+use Rattle.ends.proofs.header.write_header.Statement.{statement}
+use Rattle.ends.proofs.header.write_header.Tie as tie
 
 slice-aggregate-put : tie.Need-slice-aggregate-put
 slice-aggregate-put c = search needs

@@ -1,12 +1,12 @@
--- `ends::write_last`: the row is that of how a tape ends before its next byte.
+-- `last::write_last`: the row is that of how a tape ends before its next byte.
 -- Assumes nothing.
 use mathlib.Core.Path.{ap, _∙_}
 use borrow.Author.Needs.{needs}
 use Rattle.ground.specs.Laying.{put}
 use Rattle.tape_spec.specs.declared.tape.Ending.{Ending}
 use Rattle.tape_spec.specs.Rows.{lastRow}
-use Rattle.rows.proofs.ends.write_last.Statement.{statement}
-use Rattle.rows.proofs.ends.write_last.Tie as tie
+use Rattle.ends.proofs.last.write_last.Statement.{statement}
+use Rattle.ends.proofs.last.write_last.Tie as tie
 
 ending-requires : tie.Need-ending-requires
 ending-requires c κs = search needs
