@@ -26,7 +26,7 @@ pub fn write_image(content: &[u8], out: &mut [u8]) -> Counted
     ensures { λ r. ⌜ after r (now (out .exit)) ≡ imageWritten (now (content .entry)) (now (out .entry)) ⌝ }
 {
     let stuffed = stuffed_length(content);
-    // of the longest slice there is, two bytes more than the stuffing are past a number's end
+    // apart, since the stuffing of a very long content and two bytes more could be more than a number holds
     if out.len() < 2 {
         return Counted::refused(Refusal::NoRoom);
     }
