@@ -11,6 +11,7 @@ mod master;
 mod reader;
 mod receiver;
 mod refusal;
+mod report;
 mod search;
 mod station;
 mod tape;
@@ -18,17 +19,22 @@ mod writer;
 
 use std::io::{self, Read, Write};
 use std::process::ExitCode;
+use std::str::FromStr;
 
 const USAGE: &str = "usage: second listing < tape
+       second report < tape
        second bench < script
        second make tape SEED
        second make script SEED
-       second make day SEED RECORDS
+       second make day|turns|shortest|longest|noise SEED RECORDS
+       second make year RECORDS
        second bytes < file.hex";
 
 enum Failure {
     Usage,
     Work(String),
+    /// Its line is printed.
+    Refused,
 }
 
 impl From<io::Error> for Failure {
@@ -43,8 +49,9 @@ fn main() -> ExitCode {
         .map(|word| word.to_string_lossy().into_owned())
         .collect();
     let words: Vec<&str> = arguments.iter().map(String::as_str).collect();
-    let (message, status) = match output(&words).and_then(|bytes| write_out(&bytes)) {
+    let (message, status) = match run(&words) {
         Ok(()) => return ExitCode::SUCCESS,
+        Err(Failure::Refused) => return ExitCode::FAILURE,
         Err(Failure::Usage) => (USAGE.to_string(), 2),
         Err(Failure::Work(message)) => (format!("second: {message}"), 1),
     };
@@ -53,23 +60,41 @@ fn main() -> ExitCode {
     ExitCode::from(status)
 }
 
+fn run(words: &[&str]) -> Result<(), Failure> {
+    match words {
+        ["report"] => match report::report(&input()?) {
+            Ok(text) => write_out(text.as_bytes()),
+            Err(refusal) => write_out(refusal.line().as_bytes()).and(Err(Failure::Refused)),
+        },
+        ["make", "year", records] => Ok(make::year(number(records)?, &mut io::stdout().lock())?),
+        _ => write_out(&output(words)?),
+    }
+}
+
 fn output(words: &[&str]) -> Result<Vec<u8>, Failure> {
     match words {
         ["listing"] => Ok(tape::listing(&input()?).into_bytes()),
         ["bench"] => Ok(bench::rows(&input()?).into_bytes()),
         ["make", "tape", seed] => Ok(make::tape(number(seed)?)),
         ["make", "script", seed] => Ok(make::script(number(seed)?)),
-        ["make", "day", seed, records] => {
-            let records = records.parse().map_err(|_| Failure::Usage)?;
-            Ok(make::day(number(seed)?, records))
+        ["make", kind, seed, records] => {
+            let make = match *kind {
+                "day" => make::day,
+                "turns" => make::turns,
+                "shortest" => make::shortest,
+                "longest" => make::longest,
+                "noise" => make::noise,
+                _ => return Err(Failure::Usage),
+            };
+            Ok(make(number(seed)?, number(records)?))
         }
         ["bytes"] => hex::bytes(&input()?).map_err(Failure::Work),
         _ => Err(Failure::Usage),
     }
 }
 
-fn number(seed: &str) -> Result<u64, Failure> {
-    seed.parse().map_err(|_| Failure::Usage)
+fn number<T: FromStr>(word: &str) -> Result<T, Failure> {
+    word.parse().map_err(|_| Failure::Usage)
 }
 
 fn input() -> Result<Vec<u8>, Failure> {

@@ -12,8 +12,8 @@ fn second(command: &str, input: &Path) -> Output {
         .unwrap()
 }
 
-/// Runs each `.hex` of a folder through a command and holds the lines against its `.out`.
-fn run_all(folder: &str, command: &str) {
+/// Runs each `.hex` of a folder through a command and holds the lines against those beside it.
+fn run_all(folder: &str, command: &str, ending: &str) {
     let fixed = Path::new(env!("CARGO_MANIFEST_DIR"))
         .join("../tests")
         .join(folder);
@@ -26,20 +26,25 @@ fn run_all(folder: &str, command: &str) {
     assert!(!tests.is_empty());
     for test in tests {
         let name = test.file_stem().unwrap().to_string_lossy();
-        let bytes = Path::new(env!("CARGO_TARGET_TMPDIR")).join(format!("{folder}-{name}"));
+        let bytes = Path::new(env!("CARGO_TARGET_TMPDIR")).join(format!("{command}-{name}"));
         fs::write(&bytes, second("bytes", &test).stdout).unwrap();
         let lines = String::from_utf8(second(command, &bytes).stdout).unwrap();
-        let expected = fs::read_to_string(test.with_extension("out")).unwrap();
+        let expected = fs::read_to_string(test.with_extension(ending)).unwrap();
         assert_eq!(lines, expected, "{folder}/{name}");
     }
 }
 
 #[test]
 fn tapes() {
-    run_all("tapes", "listing");
+    run_all("tapes", "listing", "out");
+}
+
+#[test]
+fn reports() {
+    run_all("tapes", "report", "report");
 }
 
 #[test]
 fn scripts() {
-    run_all("scripts", "bench");
+    run_all("scripts", "bench", "out");
 }

@@ -1,7 +1,8 @@
--- The theorems that speak of more than one noun; the three demands last.
+-- The theorems that speak of more than one noun; the three demands and what the report promises last.
 pub mod Mastering
 pub mod Exchange
 pub mod Requests
 pub mod Refusing
 pub mod Going
 pub mod Demands
+pub mod Reporting

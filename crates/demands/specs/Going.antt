@@ -1,4 +1,5 @@
--- Calls cut at will go on: what is promised of each call on a receiver, or a tape, that the calls can reach. Assumes nothing.
+-- Calls cut at will go on: what is promised of each call on a receiver or a tape that the calls can reach; and which totals these are, of which
+-- Reporting speaks. Assumes nothing.
 use mathlib.Core.Path.{_≡_}
 use mathlib.Core.Bool.{false}
 use mathlib.Core.List.{List}
@@ -14,6 +15,9 @@ use Rattle.link_spec.specs.Hearing.{IsFresh}
 use Rattle.tape_spec.specs.declared.tape.Tape.{Tape}
 use Rattle.tape_spec.specs.declared.tape.Listed.{Listed}
 use Rattle.tape_spec.specs.Taping.{freshTape, isOver, listedOut, listed}
+use Rattle.totals_spec.specs.declared.totals.Totals.{Totals}
+use Rattle.totals_spec.specs.declared.totals.Added.{Added}
+use Rattle.totals_spec.specs.Adding.{freshTotals, addedOut, added}
 
 -- a receiver that was made for this station without a refusal, and then only came back from calls
 pub data ReachedReceiver (station : Station) : Receiver → Type 0 where
@@ -41,3 +45,8 @@ pub record TakesChunk (t : Tape) (chunk out : List ℕ) (r : Listed) : Type 0 wh
   pub most : r .taken ≤ length chunk
   pub within : r .written ≤ length out
   pub some : 0 < length chunk → isOver (t .next) ≡ false → 0 < r .taken
+
+-- totals before a tape's first byte, and such that then only came back from calls
+pub data ReachedTotals : Totals → Type 0 where
+  fresh : {t : Totals} → t ≡ freshTotals → ReachedTotals t
+  after : {t : Totals} → ReachedTotals t → (chunk : List ℕ) (r : Added) → addedOut r ≡ added t chunk → ReachedTotals (r .totals)

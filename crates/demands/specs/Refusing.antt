@@ -1,13 +1,13 @@
 -- Demand 1 in two parts: each call refuses what the paper's table names, and only that; a refused call changes and answers nothing.
--- 01, Refusal numbers. Assumes nothing.
+-- 01, Refusal numbers; 02, L1 for number 10. Assumes nothing.
 use mathlib.Core.Path.{_≡_}
 use mathlib.Core.Bool.{true, false}
 use mathlib.Core.List.{List}
 use mathlib.Core.Option.{none}
 use Prim.Native.Nat.{ℕ, _-_, _≤_, _<_}
 use lib.ListN.{length}
-use Rattle.ground.specs.declared.refusal.Refusal.the-variants.{NoRoom, TooLong, BadState}
-use Rattle.ground.specs.Refusals.{refused, counted, Keeps, AnswersOnly}
+use Rattle.ground.specs.declared.refusal.Refusal.the-variants.{NoRoom, TooLong, BadState, TapeTooLong}
+use Rattle.ground.specs.Refusals.{number, refused, counted, Keeps, AnswersOnly}
 use Rattle.ground.specs.Laying.{unplaced, placed, put}
 use Rattle.wire_spec.specs.Limits.{mostContent}
 use Rattle.wire_spec.specs.Image.{image, imageLength}
@@ -23,7 +23,12 @@ use Rattle.reader_spec.specs.Sending.{OUT, Buffers}
 use Rattle.reader_spec.specs.Answering.{poweredOn, PowerTable, Input, answered, ReaderTable}
 use Rattle.tape_spec.specs.declared.tape.Tape.{Tape}
 use Rattle.tape_spec.specs.Limits.{leastRoom}
-use Rattle.tape_spec.specs.Taping.{badTape, notListed, going, textWritten, listed}
+use Rattle.tape_spec.specs.declared.tape.Line.the-variants.{Point, Addressed}
+use Rattle.tape_spec.specs.declared.tape.Ending.the-variants.{End as END}
+use Rattle.tape_spec.specs.Taping.{badTape, notListed, going, textWritten, listed, ending}
+use Rattle.totals_spec.specs.declared.totals.Totals.{Totals}
+use Rattle.totals_spec.specs.Whole.{lineReport, nothing, ranked, noReport, isFull}
+use Rattle.totals_spec.specs.Adding.{totalsAfter, badTotals, added, reported}
 
 -- a table decides an answer: the answer is that of one of its rows whose conditions hold, and no row whose conditions hold gives another
 pub record Decides {A : Type 0} (Table : A → Type 0) (answer : A) : Type 0 where
@@ -54,14 +59,20 @@ pub record RefusesByTable : Type 0 where
   pub tape : (t : Tape) (chunk out : List ℕ) → (badTape t ≡ true → listed t chunk out ≡ notListed BadState t out)
       × (badTape t ≡ false → length out < leastRoom → listed t chunk out ≡ notListed NoRoom t out)
       × (badTape t ≡ false → leastRoom ≤ length out → listed t chunk out ≡ textWritten (going (length out) t chunk) out)
+  pub adds : (t : Totals) (chunk : List ℕ) → (badTotals t ≡ true → added t chunk ≡ record { refusal = number BadState; totals = t })
+      × (badTotals t ≡ false → added t chunk ≡ record { refusal = 0; totals = totalsAfter t chunk })
+  pub reports : (t : Totals) → let e = ending (t .tape .next) in
+      (badTotals t ≡ true → reported t ≡ noReport BadState)
+      × (badTotals t ≡ false → isFull e ≡ true → reported t ≡ noReport TapeTooLong)
+      × (badTotals t ≡ false → isFull e ≡ false → reported t ≡ ranked (t .point) (t .addressed) e (t .tape .records))
 
 -- a call that writes to a lent buffer: refused, it counts 0 and leaves the buffer as it was
 abbrev pub Writer : (List ℕ → After) → Type 0
 Writer writes =
     (out : List ℕ) → Keeps (writes out .tally .refusal) out (writes out .out) × AnswersOnly (writes out .tally .refusal) 0 (writes out .tally .count)
 
--- A refused call changes no state and no byte of a lent buffer, and answers count 0 (`put` the place where it began), no event, no meaning or an
--- empty part.
+-- A refused call changes no state and no byte of a lent buffer, and answers count 0 (`put` the place where it began), no event, no meaning, an
+-- empty part, or a report of zeros.
 pub record RefusedChangesNothing : Type 0 where
   pub puts : (bytes out : List ℕ) (at : ℕ) → let e = put bytes out at in Keeps (e .refusal) out (e .out) × AnswersOnly (e .refusal) at (e .end)
   pub asksLength : (content : List ℕ) → AnswersOnly (lengthAsked content .refusal) 0 (lengthAsked content .count)
@@ -79,3 +90,9 @@ pub record RefusedChangesNothing : Type 0 where
   pub master : (identifier code : ℕ) («data» reply : List ℕ) → let o = replyRead identifier code «data» reply in AnswersOnly (o .refusal) none (o .meaning)
   pub tape : (t : Tape) (chunk out : List ℕ) → let d = listed t chunk out in
       Keeps (d .refusal) t (d .tape) × Keeps (d .refusal) out (d .out) × AnswersOnly (d .refusal) 0 (d .taken) × AnswersOnly (d .refusal) 0 (d .written)
+  pub adds : (t : Totals) (chunk : List ℕ) → Keeps (added t chunk .refusal) t (added t chunk .totals)
+  pub reports : (t : Totals) → let r = reported t in
+      AnswersOnly (r .refusal) (lineReport Point nothing) (r .first)
+      × AnswersOnly (r .refusal) (lineReport Addressed nothing) (r .second)
+      × AnswersOnly (r .refusal) END (r .ending)
+      × AnswersOnly (r .refusal) 0 (r .records)

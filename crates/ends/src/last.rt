@@ -23,7 +23,7 @@ pub fn write_last(tape: Tape, out: &mut [u8]) -> Placed
 }
 
 // How a tape ends before this byte.
-fn ending(next: Next) -> Ending
+pub fn ending(next: Next) -> Ending
     ensures { λ r. ⌜ r ≡ endingOf next ⌝ }
 {
     match next {
@@ -34,8 +34,8 @@ fn ending(next: Next) -> Ending
     }
 }
 
-// Writes the last row, of a tape that ends like this after this many records, to the front of `out`.
-fn write_ending(ending: Ending, records: u32, out: &mut [u8]) -> Placed
+// Writes the last row of a tape that ends like this after this many records. Refuses an `out` that is shorter (NoRoom).
+pub fn write_ending(ending: Ending, records: u32, out: &mut [u8]) -> Placed
     ensures { λ r. ⌜ ended r (now (out .exit)) ≡ putOf (lastRow ending records) (now (out .entry)) 0 ⌝ }
 {
     let mut row = [0u8; MOST_LAST];

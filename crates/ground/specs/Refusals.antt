@@ -1,9 +1,9 @@
 -- The refusals with their numbers, an answer that counts bytes in these numbers, and what a refused call leaves. 01, Refusal numbers, the
--- table and below it. Assumes nothing.
+-- table and below it; 02, L1 for number 10. Assumes nothing.
 use Prim.Native.Nat.{ℕ}
 use mathlib.Core.Path.{_≡_}
 use Rattle.ground.specs.declared.refusal.Refusal.{Refusal}
-use Rattle.ground.specs.declared.refusal.Refusal.the-variants.{None, NoRoom, TooLong, BadAddress, BadState, BadRequest, WrongId, WrongCommand, WrongLength, WrongReason}
+use Rattle.ground.specs.declared.refusal.Refusal.the-variants.{None, NoRoom, TooLong, BadAddress, BadState, BadRequest, WrongId, WrongCommand, WrongLength, WrongReason, TapeTooLong}
 use Rattle.ground.specs.declared.refusal.Counted.{Counted}
 
 -- 0 is no refusal
@@ -18,6 +18,7 @@ number WrongId = 6
 number WrongCommand = 7
 number WrongLength = 8
 number WrongReason = 9
+number TapeTooLong = 10
 
 pub record Tally : Type 0 where
   pub refusal : ℕ

@@ -13,6 +13,7 @@ pub enum Refusal {
     WrongCommand,
     WrongLength,
     WrongReason,
+    TapeTooLong,
 }
 
 // A count of bytes; 0 where the call refused.
@@ -36,6 +37,7 @@ pub fn number(refusal: Refusal) -> u8
         Refusal::WrongCommand => 7,
         Refusal::WrongLength => 8,
         Refusal::WrongReason => 9,
+        Refusal::TapeTooLong => 10,
     }
 }
 

@@ -13,6 +13,8 @@ pub mod Cuts
 pub mod Crew
 pub mod Desk
 pub mod Demand
+pub mod Carried
+pub mod Apart
 pub mod Hearing
 pub mod Listed
 pub mod Unique

@@ -8,6 +8,10 @@ use tape::is_over;
 use tape::list;
 use tape::write_header;
 use tape::write_last;
+use terminal::begin;
+use terminal::hide;
+use terminal::is_terminal;
+use terminal::show;
 ghost use Prim.Native.Nat.{_≤_};
 ghost use Rattle.tape_spec.specs.Limits.{mostRecords};
 
@@ -15,29 +19,47 @@ ghost use Rattle.tape_spec.specs.Limits.{mostRecords};
 // started without tools/start, the descriptor is closed and the write comes to nothing.
 const DONE: i32 = 3;
 
-// Where the listing stands: more of the tape is read, nothing further of it is, or a read or a write failed or the tape was refused.
-enum Course {
-    Reading,
-    Over,
-    Failed,
+// Why a tape is not listed to its end.
+enum Failure {
+    Read,
+    Write,
+    Refused,
 }
 
-struct Progress {
+// Where the listing stands: a block of this many bytes is listed and the next one is read, nothing further of the tape is, or nothing can be.
+enum Course {
+    Reading(usize),
+    Over,
+    Failed(Failure),
+}
+
+struct Stage {
     tape: Tape,
     course: Course,
+}
+
+// Says what failed; of a read or a write before another call fails, as `errno` says why.
+fn tell(failure: Failure) {
+    match failure {
+        Failure::Read => os::fail(b"listing: standard input"),
+        Failure::Write => os::fail(b"listing: standard output"),
+        Failure::Refused => {
+            io::write_all(STDERR_FILENO, b"listing: the tape was refused\n");
+        }
+    }
 }
 
 // Writes all of `text`, or says why it cannot.
 fn print(text: &[u8]) -> bool {
     let is_written = io::write_all(STDOUT_FILENO, text);
     if !is_written {
-        os::fail(b"listing: standard output");
+        tell(Failure::Write);
     }
     is_written
 }
 
 // Lists all of a chunk that is read; `text` is where the rows are put together.
-fn list_chunk(tape: Tape, chunk: &[u8], text: &mut [u8]) -> Progress
+fn list_chunk(tape: Tape, chunk: &[u8], text: &mut [u8]) -> Stage
     requires { ⌜ tape .records ≤ mostRecords ⌝ }
     ensures { λ r. ⌜ r .tape .records ≤ mostRecords ⌝ }
 {
@@ -47,10 +69,10 @@ fn list_chunk(tape: Tape, chunk: &[u8], text: &mut [u8]) -> Progress
         let listed = list(tape, &chunk[taken..], text);
         tape = listed.tape;
         let written = listed.written;
-        if !print(&text[..written]) {
-            return Progress {
+        if !io::write_all(STDOUT_FILENO, &text[..written]) {
+            return Stage {
                 tape,
-                course: Course::Failed,
+                course: Course::Failed(Failure::Write),
             };
         }
         if listed.taken == 0 {
@@ -61,45 +83,39 @@ fn list_chunk(tape: Tape, chunk: &[u8], text: &mut [u8]) -> Progress
     let course = if is_over(tape) {
         Course::Over
     } else {
-        Course::Reading
+        Course::Reading(taken)
     };
-    Progress { tape, course }
+    Stage { tape, course }
 }
 
 // After a call that took nothing: nothing further is read. Were it refused instead, the listing would not be whole.
-fn halted(tape: Tape) -> Progress
+fn halted(tape: Tape) -> Stage
     requires { ⌜ tape .records ≤ mostRecords ⌝ }
     ensures { λ r. ⌜ r .tape .records ≤ mostRecords ⌝ }
 {
-    if is_over(tape) {
-        return Progress {
-            tape,
-            course: Course::Over,
-        };
-    }
-    io::write_all(STDERR_FILENO, b"listing: the tape was refused\n");
-    Progress {
-        tape,
-        course: Course::Failed,
-    }
+    let course = if is_over(tape) {
+        Course::Over
+    } else {
+        Course::Failed(Failure::Refused)
+    };
+    Stage { tape, course }
 }
 
 // Reads a block of the tape and lists it. Without one the tape is over.
-fn list_block(tape: Tape, block: &mut [u8], text: &mut [u8]) -> Progress
+fn list_block(tape: Tape, block: &mut [u8], text: &mut [u8]) -> Stage
     requires { ⌜ tape .records ≤ mostRecords ⌝ }
     ensures { λ r. ⌜ r .tape .records ≤ mostRecords ⌝ }
 {
     let got = libc::read(STDIN_FILENO, block);
     if got < 0 {
-        os::fail(b"listing: standard input");
-        return Progress {
+        return Stage {
             tape,
-            course: Course::Failed,
+            course: Course::Failed(Failure::Read),
         };
     }
     let count = io::count(got, block);
     if count == 0 {
-        return Progress {
+        return Stage {
             tape,
             course: Course::Over,
         };
@@ -114,18 +130,24 @@ const MOST_BLOCKS: u64 = 0x2_0000_0000;
 fn list_tape(text: &mut [u8]) -> bool {
     let mut block = io::large_buffer();
     let mut tape = fresh_tape();
+    let mut progress = begin(!is_terminal(STDOUT_FILENO));
     let mut turns = MOST_BLOCKS;
     while turns > 0 {
         turns -= 1;
-        let progress = list_block(tape, &mut block, text);
-        tape = progress.tape;
-        let course = progress.course;
+        let stage = list_block(tape, &mut block, text);
+        tape = stage.tape;
+        let course = stage.course;
         match course {
-            Course::Reading => {}
+            Course::Reading(count) => progress = show(progress, count),
             Course::Over => turns = 0,
-            Course::Failed => return false,
+            Course::Failed(failure) => {
+                hide(progress);
+                tell(failure);
+                return false;
+            }
         }
     }
+    hide(progress);
     let last = write_last(tape, text);
     let end = last.end;
     print(&text[..end])

@@ -1,5 +1,5 @@
 -- Records in a row on one line, heard together. It serves contracts of private functions. Assumes nothing.
-use Prim.Native.Nat.{ℕ, _+_, _*_, _-_, _≤_, _<_}
+use Prim.Native.Nat.{ℕ, _+_, _*_, _-_, _≤_}
 use mathlib.Core.Path.{_≡_}
 use mathlib.Core.Bool.{cond}
 use mathlib.Core.List.{List, [], _∷_, _++_}
@@ -13,12 +13,6 @@ use Rattle.tape_spec.specs.Limits.{leastRoom, mostRecords}
 use Rattle.tape_spec.specs.Rows.{heardRow}
 use Rattle.tape_spec.specs.Whole.{kindOf}
 use Rattle.tape.specs.declared.run.Ran.{Ran}
-
--- not more than either of two numbers, and not zero unless one of them is
-pub record Least (a b r : ℕ) : Type 0 where
-  pub first : r ≤ a
-  pub second : r ≤ b
-  pub some : 0 < a → 0 < b → 0 < r
 
 -- whole records of one kind, with these bodies
 unfoldable pub laced : ℕ → List ℕ → List ℕ

@@ -1,4 +1,5 @@
 // Records in a row on one line, heard together.
+use ground::least;
 use link::Receiver;
 use link::receive;
 use reel::kind_of;
@@ -12,7 +13,7 @@ ghost use Prim.Native.Nat.{_+_, _-_, _≤_, _<_};
 ghost use lib.ListN.{length, take};
 ghost use Rattle.link_spec.specs.Receiving.{badReceiver};
 ghost use Rattle.tape_spec.specs.Limits.{mostRecords};
-ghost use Rattle.tape.specs.Running.{Least, Gathered, left, runLeft, running, RunHeard as HeardOf};
+ghost use Rattle.tape.specs.Running.{Gathered, left, runLeft, running, RunHeard as HeardOf};
 
 // The receiver after the records that were heard, their count, and where their rows end.
 pub(crate) struct Ran {
@@ -61,12 +62,6 @@ fn gather(kind: u8, most: usize, chunk: &[u8], piece: &mut [u8]) -> usize
         count += 1;
     }
     count
-}
-
-fn least(a: usize, b: usize) -> usize
-    ensures { λ r. ⌜ Least a b r ⌝ }
-{
-    if a < b { a } else { b }
 }
 
 // Hears bodies, and puts their rows while there is room for another.

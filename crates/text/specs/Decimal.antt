@@ -1,8 +1,9 @@
--- The decimal digits of a number, in ASCII. 01, The listing program: the numbers in a row. Assumes nothing.
+-- The decimal digits of a number, in ASCII. 01, The listing program: the numbers in a row; 02, L1: a signed number. Assumes nothing.
 use Prim.Native.Nat.{ℕ, zero, suc, _+_, _*_, _-_, _/_, _%_}
 use mathlib.Core.Bool.{cond}
 use mathlib.Core.List.{List, [], _∷_, _++_}
 use lib.Dec.{eqb}
+use lib.IntN.{ℤ, pos, negsuc}
 
 -- 30 to 39
 abbrev pub digit : ℕ → ℕ
@@ -19,6 +20,11 @@ mostDigits = 20
 
 abbrev pub decimal : ℕ → List ℕ
 decimal n = spelled mostDigits n
+
+-- below zero, after a `-`; `negsuc n` is -(n + 1)
+abbrev pub signed : ℤ → List ℕ
+signed (pos n) = decimal n
+signed (negsuc n) = 0x2D ∷ decimal (n + 1)
 
 -- the number that digits stand for, after one that was read before them
 unfoldable pub value : ℕ → List ℕ → ℕ

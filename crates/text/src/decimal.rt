@@ -6,7 +6,7 @@ ghost use Rattle.ground.specs.Laying.{ended, put as putOf};
 ghost use Rattle.text.specs.Decimal.{decimal};
 
 // Digits that every 64-bit number has room in.
-const MOST_DIGITS: usize = 20;
+pub(crate) const MOST_DIGITS: usize = 20;
 
 // Puts the decimal digits of `n` into `out` from the place `at` on. Refuses an `out` that does not reach as far (NoRoom).
 pub fn put_decimal(n: u64, out: &mut [u8], at: usize) -> Placed

@@ -1,16 +1,18 @@
-//! Random tapes and scripts, each made from a seed.
+//! Tapes and scripts, random ones each made from a seed.
 
+mod long;
 mod prng;
 mod script;
 mod tape;
 mod wire;
 
+pub use long::{day, longest, noise, shortest, turns, year};
 pub use script::script;
-pub use tape::{day, tape};
+pub use tape::tape;
 
 #[cfg(test)]
 mod tests {
-    use crate::{bench, make};
+    use crate::{bench, make, report};
 
     const SEEDS: std::ops::RangeInclusive<u64> = 1..=200;
 
@@ -64,5 +66,28 @@ mod tests {
             A FRAME,A CHECK,A SHORT,A LONG,A PAIR,A ADDR,end 0,cut 0,bad 0,end,cut,bad";
         let events: Vec<&str> = events.split(',').collect();
         all_reached(&text, &events, |line, event| line.contains(event));
+    }
+
+    #[test]
+    fn reports_reach_every_rank_and_sign() {
+        let text: String = SEEDS
+            .map(|seed| rank_and_signs(&report::report(&make::tape(seed)).unwrap()))
+            .collect();
+        for louder in ["P", "A", "none"] {
+            for signs in ["+ +", "+ -", "- +", "- -"] {
+                let wanted = format!("{louder} {signs}");
+                all_reached(&text, &[&wanted], |line, wanted| line == wanted);
+            }
+        }
+    }
+
+    /// Which line of a report was heard more, and the signs of both differences.
+    fn rank_and_signs(report: &str) -> String {
+        let totals = |row| fields(report.lines().nth(row).unwrap()).collect::<Vec<&str>>();
+        let (first, second) = (totals(1), totals(2));
+        let equal = first[2] == second[2];
+        let louder = if equal { "none" } else { first[0] };
+        let sign = |line: &[&str]| if line[5].starts_with('-') { '-' } else { '+' };
+        format!("{louder} {} {}\n", sign(&first), sign(&second))
     }
 }

@@ -19,24 +19,10 @@ pub fn tape(seed: u64) -> Vec<u8> {
     ended(&mut prng, tape)
 }
 
-/// A day's tape: so many records at least, stretch by stretch of either line, and no last byte missing.
-pub fn day(seed: u64, records: usize) -> Vec<u8> {
-    let mut prng = Prng::new(seed);
-    let mut tape = Vec::new();
-    while tape.len() < 2 * records {
-        let (kind, line) =
-            prng.pick(&[(POINT_BYTE, Line::Point), (ADDRESSED_BYTE, Line::Addressed)]);
-        for byte in wire::stretch(&mut prng, line, MASTER) {
-            tape.extend([kind, byte]);
-        }
-    }
-    tape
-}
-
 /// So many records, of the two lines in turn; the tape may end inside a frame of either.
 fn both_lines(prng: &mut Prng, records: usize) -> Vec<u8> {
-    let point = stream(prng, Line::Point, records);
-    let addressed = stream(prng, Line::Addressed, records);
+    let point = wire::stream(prng, Line::Point, MASTER, records);
+    let addressed = wire::stream(prng, Line::Addressed, MASTER, records);
     let mut lines = [
         (POINT_BYTE, point.into_iter()),
         (ADDRESSED_BYTE, addressed.into_iter()),
@@ -54,15 +40,6 @@ fn both_lines(prng: &mut Prng, records: usize) -> Vec<u8> {
         }
     }
     tape
-}
-
-/// At least so many bytes of one line.
-fn stream(prng: &mut Prng, line: Line, count: usize) -> Vec<u8> {
-    let mut stream = Vec::new();
-    while stream.len() < count {
-        stream.extend(wire::stretch(prng, line, MASTER));
-    }
-    stream
 }
 
 /// The tape with one of its last lines: `end`, `cut` or `bad`.

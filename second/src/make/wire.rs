@@ -72,6 +72,15 @@ pub fn stretch(prng: &mut Prng, line: Line, own: u8) -> Vec<u8> {
     }
 }
 
+/// Stretch by stretch, at least so many bytes.
+pub fn stream(prng: &mut Prng, line: Line, own: u8, count: usize) -> Vec<u8> {
+    let mut stream = Vec::new();
+    while stream.len() < count {
+        stream.extend(stretch(prng, line, own));
+    }
+    stream
+}
+
 fn cut(prng: &mut Prng, image: &[u8]) -> Vec<u8> {
     image[..prng.between(1, image.len() - 1)].to_vec()
 }

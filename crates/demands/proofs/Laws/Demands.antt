@@ -31,9 +31,10 @@ use Rattle.reader_spec.proofs.Laws.Values.{written-read}
 use Rattle.tape_spec.specs.Whole.{parts, entries, freshReceivers}
 use Rattle.tape_spec.proofs.Laws.Taping.{refuses-state, refuses-room, lists-chunk, listed-keeps}
 use Rattle.tape_spec.proofs.Laws.Sessions.{listing-is, listing-shows, listing-some}
+use Rattle.totals_spec.proofs.Laws.Adding.{add-refused, adds, added-keeps, report-bad, report-long, reports}
 use Rattle.demands.specs.Refusing.{RefusesByTable, RefusedChangesNothing}
 use Rattle.demands.specs.Demands.{Demand1, Demand2, Demand3}
-use Rattle.demands.proofs.Laws.Refusing.{put-stops, length-counts, image-counts, point-counts, addressed-counts, request-counts, new-refused, received-silent, received-unrefused, reply-meaningless, listed-counts}
+use Rattle.demands.proofs.Laws.Refusing.{put-stops, length-counts, image-counts, point-counts, addressed-counts, request-counts, new-refused, received-silent, received-unrefused, reply-meaningless, listed-counts, reported-zeros}
 use Rattle.demands.proofs.Laws.Exchange.{exchange, nack-exchange}
 use Rattle.demands.proofs.Laws.Requests.{request-executed, code-nacked, data-nacked}
 use Rattle.demands.proofs.Laws.Going.{receiver-goes-on, tape-goes-on}
@@ -63,6 +64,8 @@ refuses-by-table =
         only = reading.table-only identifier code «data» reply;
       };
       tape = λ t chunk out. (refuses-state t chunk out, refuses-room t chunk out, lists-chunk t chunk out);
+      adds = λ t chunk. (add-refused t chunk, adds t chunk);
+      reports = λ t. (report-bad t, report-long t, reports t);
     }
 
 refused-changes-nothing : RefusedChangesNothing
@@ -83,6 +86,8 @@ refused-changes-nothing =
       power = powered-keeps;
       master = reply-meaningless;
       tape = λ t chunk out. let k = listed-keeps t chunk out in let n = listed-counts t chunk out in (k .0, k .1, n .0, n .1);
+      adds = added-keeps;
+      reports = reported-zeros;
     }
 
 pub demand-1 : Demand1

@@ -31,8 +31,14 @@ use Rattle.request_spec.specs.Replies.{dataOf, ackByte}
 use Rattle.request_spec.specs.Requesting.{requestWritten}
 use Rattle.request_spec.specs.Reading.{Understood, notRead, isWrite, isDue, dataRead, isNack, reasonRead, signRead, wrongId, isSign, wrongCommand, readAs, readBy, replyRead}
 use Rattle.tape_spec.specs.declared.tape.Tape.{Tape}
-use Rattle.tape_spec.specs.Taping.{ListedOut, listed}
+use Rattle.tape_spec.specs.declared.tape.Line.the-variants.{Point, Addressed as AddressedLine}
+use Rattle.tape_spec.specs.declared.tape.Ending.the-variants.{End as END}
+use Rattle.tape_spec.specs.Taping.{ListedOut, listed, ending}
 use Rattle.tape_spec.proofs.Laws.Taping.{listed-elim}
+use Rattle.totals_spec.specs.declared.totals.Totals.{Totals}
+use Rattle.totals_spec.specs.Whole.{lineReport, Reported, nothing, isFull}
+use Rattle.totals_spec.specs.Adding.{badTotals, reported}
+use Rattle.totals_spec.proofs.Laws.Ranking.{ranked-rest}
 
 -- ---- counts
 
@@ -148,3 +154,27 @@ pub listed-counts : (t : Tape) (chunk out : List ℕ) → let d = listed t chunk
 listed-counts t chunk out =
     listed-elim (λ (d : ListedOut). AnswersOnly (d .refusal) 0 (d .taken) × AnswersOnly (d .refusal) 0 (d .written)) t chunk out
     (λ why. ((λ refused. refl), (λ refused. refl))) (λ fine roomy. ((λ refused. absurd (refused refl)), (λ refused. absurd (refused refl))))
+
+-- ---- zeros
+
+pub reported-zeros : (t : Totals) → let r = reported t in
+    AnswersOnly (r .refusal) (lineReport Point nothing) (r .first)
+    × AnswersOnly (r .refusal) (lineReport AddressedLine nothing) (r .second)
+    × AnswersOnly (r .refusal) END (r .ending)
+    × AnswersOnly (r .refusal) 0 (r .records)
+unfolding reported
+reported-zeros t =
+    let e = ending (t .tape .next) in
+    let Zeros : Reported → Type 0 = λ r. AnswersOnly (r .refusal) (lineReport Point nothing) (r .first)
+    × AnswersOnly (r .refusal) (lineReport AddressedLine nothing) (r .second)
+    × AnswersOnly (r .refusal) END (r .ending)
+    × AnswersOnly (r .refusal) 0 (r .records) in
+    let none = ranked-rest (t .point) (t .addressed) e (t .tape .records) .0 in
+    cond-elim Zeros (badTotals t) (λ bad. ((λ refused. refl), (λ refused. refl), (λ refused. refl), (λ refused. refl)))
+    (λ good. cond-elim Zeros (isFull e) (λ full. ((λ refused. refl), (λ refused. refl), (λ refused. refl), (λ refused. refl)))
+    (λ short. (
+      (λ refused. absurd (refused none)),
+      (λ refused. absurd (refused none)),
+      (λ refused. absurd (refused none)),
+      (λ refused. absurd (refused none)),
+    )))

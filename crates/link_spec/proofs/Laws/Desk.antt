@@ -123,17 +123,18 @@ module _ (station : Station) (good : hasAddress station ≡ true) (heard : List 
 -- ---- where a FRAME is told
 
 -- a stop byte tells FRAME only after a content that is long enough and whose check is right; it carries what stands before the check
-record IsFrame (check : Check) (k : List ℕ) (v : Verdict) : Type 0 where
-  least : leastContent ≤ length k
-  whole : k ≡ withCheck check (front check k)
-  carried : take (v .length) k ≡ front check k
+pub record IsFrame (check : Check) (k : List ℕ) (v : Verdict) : Type 0 where
+  pub least : leastContent ≤ length k
+  pub whole : k ≡ withCheck check (front check k)
+  pub carried : take (v .length) k ≡ front check k
+  pub within : v .length ≤ length k
 
-verdict-frame : (check : Check) (k : List ℕ) → FRAME ≡ named (verdict check k .event) → IsFrame check k (verdict check k)
+pub verdict-frame : (check : Check) (k : List ℕ) → FRAME ≡ named (verdict check k .event) → IsFrame check k (verdict check k)
 unfolding front
 verdict-frame check k =
     by-stop check k (λ (v : Verdict). FRAME ≡ named (v .event) → IsFrame check k v) (λ few e. no-case (cc))
     (λ least w e. no-case (cc))
-    (λ least r e. record { least = least; whole = right-withCheck check k r; carried = refl })
+    (λ least r e. record { least = least; whole = right-withCheck check k r; carried = refl; within = omega arith })
 
 told-frame : {place p : ℕ} {content c : List ℕ} (n : Name) → List·Memᴰ (toldAt place FRAME content) (note p n c)
     → (place ≡ p) × (FRAME ≡ n) × (content ≡ c)

@@ -224,6 +224,10 @@ stays-good s piece good =
     let l = heard-stays piece 0 s within .leaves in
     rw (hears s piece good, le-ltb mostContent (heard 0 s piece .receiver .count) (l .count within), l .station) (parts .1)
 
+-- the station stays
+pub keeps-station : (s : Receiver) (piece : List ℕ) → badReceiver s ≡ false → received s piece .receiver .station ≡ s .station
+keeps-station s piece good = rw (hears s piece good) (heard-stays piece 0 s (good-count s good) .leaves .station)
+
 -- what an event carries lies within the answer's content
 pub length-within : (s : Receiver) (piece : List ℕ) → received s piece .length ≤ mostContent
 unfolding received

@@ -64,14 +64,14 @@ takes c =
 kept : (c : tie.After-list Inv-loop μ-loop) → length (c .list .last .1 .1 .0) ≡ length (entry c .args .text .now)
 kept c = omega (arith, c .list .kept, c .before .before .before .before .loop .inv .1)
 
-slice-reshare-prefix-print : tie.Need-slice-reshare-prefix-print Inv-loop μ-loop
-slice-reshare-prefix-print c = omega (arith, within (c .before .before .before) .written, c .before .before .before .list .kept)
+slice-reshare-prefix-write-all : tie.Need-slice-reshare-prefix-write-all Inv-loop μ-loop
+slice-reshare-prefix-write-all c = omega (arith, within (c .before .before .before) .written, c .before .before .before .list .kept)
 
-slice-aggregate-print : tie.Need-slice-aggregate-print Inv-loop μ-loop
-slice-aggregate-print c = sym (length-take-le _ _ (slice-reshare-prefix-print (c .before)))
+slice-aggregate-write-all : tie.Need-slice-aggregate-write-all Inv-loop μ-loop
+slice-aggregate-write-all c = sym (length-take-le _ _ (slice-reshare-prefix-write-all (c .before)))
 
-print-requires : tie.Need-print-requires Inv-loop μ-loop
-print-requires c κs = tt
+write-all-requires : tie.Need-write-all-requires Inv-loop μ-loop
+write-all-requires c κs = tt
 
 same-length : tie.Need-same-length Inv-loop μ-loop
 same-length c = kept (c .before .before .before .before .before .before)
@@ -123,9 +123,9 @@ list-chunk-spec =
     part-list-start
     part-list-end
     list-requires
-    slice-reshare-prefix-print
-    slice-aggregate-print
-    print-requires
+    slice-reshare-prefix-write-all
+    slice-aggregate-write-all
+    write-all-requires
     same-length
     returns
     halted-requires

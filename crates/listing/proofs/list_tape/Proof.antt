@@ -14,11 +14,11 @@ use Rattle.listing.proofs.list_tape.Statement.{statement}
 use Rattle.listing.proofs.list_tape.Tie as tie
 
 abbrev Inv-loop : tie.InvT-loop
-Inv-loop text₀ block₀ tape₀ turns₀ text block tape turns =
+Inv-loop text₀ block₀ tape₀ progress₀ turns₀ text block tape progress turns =
     (length text ≡ length text₀) × (length block ≡ 65536) × (tape .records ≤ mostRecords)
 
 abbrev μ-loop : tie.MeasureT-loop
-μ-loop text₀ block₀ tape₀ turns₀ text block tape turns = turns
+μ-loop text₀ block₀ tape₀ progress₀ turns₀ text block tape progress turns = turns
 
 large-buffer-requires : tie.Need-large-buffer-requires Inv-loop μ-loop
 large-buffer-requires c κs = tt
@@ -26,9 +26,16 @@ large-buffer-requires c κs = tt
 fresh-tape-requires : tie.Need-fresh-tape-requires Inv-loop μ-loop
 fresh-tape-requires c κs = tt
 
+is-terminal-requires : tie.Need-is-terminal-requires Inv-loop μ-loop
+is-terminal-requires c κs = tt
+
+begin-requires : tie.Need-begin-requires Inv-loop μ-loop
+begin-requires c κs = tt
+
 loop-holds : tie.Need-loop-holds Inv-loop μ-loop
 loop-holds c =
-    (refl, sym (c .before .large-buffer .ensures), omega (arith, ap (λ (t : Tape). t .records) (c .fresh-tape .ensures)))
+    let f = c .before .before in
+    (refl, sym (f .before .large-buffer .ensures), omega (arith, ap (λ (t : Tape). t .records) (f .fresh-tape .ensures)))
 
 sub-turns : tie.Need-sub-turns Inv-loop μ-loop
 sub-turns c = omega arith
@@ -39,42 +46,52 @@ slice-aggregate-list-block c = sym (c .before .before .loop .inv .1)
 list-block-requires : tie.Need-list-block-requires Inv-loop μ-loop
 list-block-requires c κs = c .before .before .before .loop .inv .2
 
-enum-told : tie.Need-enum-told Inv-loop μ-loop
-enum-told c = search needs
-
 -- a block leaves both buffers as long as they were, and counts no record too many
 keeps : (c : tie.After-list-block Inv-loop μ-loop) → let b = c .list-block in
-    (length (b .last .1 .1 .0) ≡ length (c .before .before .before .before .before .before .before .before .args .text .now))
+    (length (b .last .1 .1 .0) ≡ length (c .before .before .before .before .before .before .before .before .before .before .args .text .now))
     × (length (b .last .1 .0) ≡ 65536) × (b .result .tape .records ≤ mostRecords)
 keeps c =
     let l = c .before .before .before .before .loop in
     (omega (arith, c .list-block .kept, l .inv .0), omega (arith, c .list-block .kept, l .inv .1), c .list-block .ensures)
 
+enum-known-course : tie.Need-enum-known-course Inv-loop μ-loop
+enum-known-course c = search needs
+
+show-requires : tie.Need-show-requires Inv-loop μ-loop
+show-requires c κs = tt
+
 loop-less : tie.Need-loop-less Inv-loop μ-loop
-loop-less c =
-    omega (arith, c .before .before .before .before .before .before .before .before .before .loop-test .taken)
+loop-less c = omega (arith, c .before .before .before .before .before .before .before .before .before .before .before .loop-test .taken)
 
 loop-again : tie.Need-loop-again Inv-loop μ-loop
-loop-again c = keeps (c .before .before .before .before .before .before)
+loop-again c = keeps (c .before .before .before .before .before .before .before .before)
 
-enum-told-2 : tie.Need-enum-told-2 Inv-loop μ-loop
-enum-told-2 c = search needs
+enum-told : tie.Need-enum-told Inv-loop μ-loop
+enum-told c = search needs
 
 loop-less-2 : tie.Need-loop-less-2 Inv-loop μ-loop
-loop-less-2 c =
-    omega (arith, c .before .before .before .before .before .before .before .before .before .loop-test .taken)
+loop-less-2 c = omega (arith, c .before .before .before .before .before .before .before .before .before .loop-test .taken)
 
 loop-again-2 : tie.Need-loop-again-2 Inv-loop μ-loop
 loop-again-2 c = keeps (c .before .before .before .before .before .before)
 
-enum-told-3 : tie.Need-enum-told-3 Inv-loop μ-loop
-enum-told-3 c = search needs
+enum-known-course-2 : tie.Need-enum-known-course-2 Inv-loop μ-loop
+enum-known-course-2 c = search needs
+
+hide-requires : tie.Need-hide-requires Inv-loop μ-loop
+hide-requires c κs = tt
+
+tell-requires : tie.Need-tell-requires Inv-loop μ-loop
+tell-requires c κs = tt
 
 same-length : tie.Need-same-length Inv-loop μ-loop
-same-length c = keeps (c .before .before .before .before .before .before) .0
+same-length c = keeps (c .before .before .before .before .before .before .before .before .before) .0
 
 returns : tie.Need-returns Inv-loop μ-loop
 returns c = tt
+
+hide-requires-2 : tie.Need-hide-requires-2 Inv-loop μ-loop
+hide-requires-2 c κs = tt
 
 write-last-requires : tie.Need-write-last-requires Inv-loop μ-loop
 write-last-requires c κs = tt
@@ -82,7 +99,7 @@ write-last-requires c κs = tt
 slice-reshare-prefix-print : tie.Need-slice-reshare-prefix-print Inv-loop μ-loop
 slice-reshare-prefix-print c =
     let w = c .before .before .write-last in
-    let l = c .before .before .before .before .before .loop in
+    let l = c .before .before .before .before .before .before .loop in
     omega (arith, w .kept, put-ends (w .result) (lastRowOf (l .tape)) (l .text) 0 (w .ensures) zero-le)
 
 slice-aggregate-print : tie.Need-slice-aggregate-print Inv-loop μ-loop
@@ -93,7 +110,7 @@ print-requires c κs = tt
 
 same-length-2 : tie.Need-same-length-2 Inv-loop μ-loop
 same-length-2 c =
-    let w = c .before .before .before .before in omega (arith, w .write-last .kept, w .before .before .before .loop .inv .0)
+    let w = c .before .before .before .before in omega (arith, w .write-last .kept, w .before .before .before .before .loop .inv .0)
 
 returns-2 : tie.Need-returns-2 Inv-loop μ-loop
 returns-2 c = tt
@@ -106,19 +123,25 @@ list-tape-spec =
     μ-loop
     large-buffer-requires
     fresh-tape-requires
+    is-terminal-requires
+    begin-requires
     loop-holds
     sub-turns
     slice-aggregate-list-block
     list-block-requires
-    enum-told
+    enum-known-course
+    show-requires
     loop-less
     loop-again
-    enum-told-2
+    enum-told
     loop-less-2
     loop-again-2
-    enum-told-3
+    enum-known-course-2
+    hide-requires
+    tell-requires
     same-length
     returns
+    hide-requires-2
     write-last-requires
     slice-reshare-prefix-print
     slice-aggregate-print

@@ -46,11 +46,11 @@ rise-entries (heardOn line b ∷ rs) n r =
 -- ---- a hearing with one call for each byte
 
 -- what a call tells whose last byte has this place
-abbrev toldOf : ℕ → Said → List Told
+abbrev pub toldOf : ℕ → Said → List Told
 toldOf place said = note place (said .event) (carried said)
 
 -- what the bytes after a place tell that are handed over one by one
-unfoldable told : ℕ → Receiver → List ℕ → List Told
+unfoldable pub told : ℕ → Receiver → List ℕ → List Told
 told p s [] = []
 told p s (b ∷ bs) =
     let said = received s (b ∷ []) in
@@ -68,7 +68,7 @@ fresh-on : (line : Line) → IsFresh (stationOn line) (receiverOn line freshRece
 fresh-on Point = fresh-point
 fresh-on Addressed = fresh-station 0x00 (λ none. true≢false (no-station-is 0x00 .1 none))
 
-told-lists : (line : Line) (stream : List ℕ) → Lists (stationOn line) stream (told 0 (receiverOn line freshReceivers) stream)
+pub told-lists : (line : Line) (stream : List ℕ) → Lists (stationOn line) stream (told 0 (receiverOn line freshReceivers) stream)
 told-lists line stream =
     let f = fresh-on line in
     hearing-lists f (hears stream stream 0 (receiverOn line freshReceivers) (fresh-good f) refl)

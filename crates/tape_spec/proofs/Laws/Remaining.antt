@@ -85,7 +85,7 @@ text-none : (n : ℕ) (r : Receivers) (next : Next) → lastRowOf (tapeOf n next
 unfolding entries entryRows
 text-none n r next = ap (lastRow (ending next)) (sym (add-zero n))
 
-kind-bodyless : (n k : ℕ) → ending (afterKind n k) ≡ cond (eqb n mostRecords) FULL (bodyless (kind k))
+pub kind-bodyless : (n k : ℕ) → ending (afterKind n k) ≡ cond (eqb n mostRecords) FULL (bodyless (kind k))
 unfolding afterKind
 kind-bodyless n k = go (eqb n mostRecords) (kind k)
   where

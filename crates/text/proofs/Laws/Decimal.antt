@@ -86,6 +86,11 @@ pub length-decimal : (n : ℕ) → n ≤ 0xFFFFFFFF → length (decimal n) ≤ 1
 unfolding tens
 length-decimal n h = length-spelled mostDigits n 9 (omega arith)
 
+-- one of 64 bits twenty
+pub length-digits : (n : ℕ) → n < 0x10000000000000000 → length (decimal n) ≤ mostDigits
+unfolding tens
+length-digits n h = length-spelled mostDigits n 19 (omega arith)
+
 -- the decimal digits of a 64-bit number stand for it
 pub value-decimal : (n : ℕ) → n < 0x10000000000000000 → value 0 (decimal n) ≡ n
 unfolding tens

@@ -9,4 +9,4 @@ use Rattle.text.specs.Examples.{Holds, examples}
 
 pub each-holds : Each Holds examples
 unfolding ascii spelled digit further pairs
-each-holds = refl and refl and refl and refl and refl and refl and refl and refl and refl and refl and refl and none
+each-holds = refl and refl and refl and refl and refl and refl and refl and refl and refl and refl and refl and refl and refl and refl and refl and refl and none

@@ -89,6 +89,11 @@ pub specials-special : (b : ℕ) (s : List ℕ) → 0xFD ≤ b → b < 0x100 →
 unfolding specials
 specials-special b s least most = by-special (λ (n : ℕ). specials (n ∷ s) ≡ 1 + specials s) b least most refl refl refl
 
+pub specials-append : (k l : List ℕ) → specials (k ++ l) ≡ specials k + specials l
+unfolding specials
+specials-append [] l = sym (zero-add (specials l))
+specials-append (b ∷ k) l = let h = specials-append k l in omega arith
+
 pub specials-most : (content : List ℕ) → specials content ≤ length content
 unfolding specials
 specials-most [] = zero-le

@@ -1,7 +1,8 @@
 -- `run::run`: the bodies that `gather` finds at the front of the chunk are those that `hear` hears.
 -- Assumes nothing.
 use mathlib.Core.Path.{sym, ap, _∙_}
-use Prim.Native.Nat.{ℕ}
+use mathlib.Core.Logic.{⊎-elim}
+use Prim.Native.Nat.{ℕ, _<_}
 use native.Mathlib.Nat.{le-trans}
 use native.Mathlib.Omega.{arith}
 use borrow.Author.Needs.{needs}
@@ -27,7 +28,7 @@ gather-requires : tie.Need-gather-requires
 gather-requires c κs =
     let l = c .before .before .least .ensures in
     let e = c .before .before .before .before .before .before in
-    let some = l .some (omega (arith, e .pre)) (omega (arith, e .pre)) in
+    let some : 0 < c .before .before .least .result = ⊎-elim (λ first. omega (arith, e .pre)) (λ second. omega (arith, e .pre)) (l .one) in
     (omega (arith, e .pre), (some, l .second))
 
 slice-reshare-prefix-hear : tie.Need-slice-reshare-prefix-hear

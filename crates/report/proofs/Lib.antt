@@ -1,0 +1,2 @@
+-- The laws of this program, which stand for no one function.
+pub mod Laws

@@ -1,0 +1,18 @@
+// A tape's bytes in, its report out: fresh totals, the bytes chunk by chunk, the report, and its rows.
+mod chunk;
+mod line;
+mod split;
+mod sweep;
+
+pub use chunk::add;
+pub use ends::write_ending;
+pub use reel::is_over;
+pub use tally::fresh_totals;
+pub use tally::report;
+pub use tally::write_sums;
+pub use tally::write_title;
+pub use totals_spec::Added;
+pub use totals_spec::LineReport;
+pub use totals_spec::Report;
+pub use totals_spec::Sums;
+pub use totals_spec::Totals;
