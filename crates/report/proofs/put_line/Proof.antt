@@ -24,8 +24,7 @@ asked c = let r = entry c .args .report in sumsRow (r .line) (r .sums)
 short : (c : tie.After-struct-known) → length (asked c) ≤ mostRow
 short c =
     let r = entry c .args .report in
-    let g = entry c .good .0 .1 .1 .1 .0 .1 .1 in
-    row-within (r .line) (r .sums) (record { frames = g .0 .1; heard = g .1 .0 .1; inside = g .1 .1 .0 .1; reserved = g .1 .1 .1 .0 .1 })
+    row-within (r .line) (r .sums)
 
 -- it stands at its place
 lies : (c : tie.After-struct-known) → let w = c .before .before .before .write-sums in let a = entry c .args in

@@ -86,10 +86,17 @@ pub length-decimal : (n : ℕ) → n ≤ 0xFFFFFFFF → length (decimal n) ≤ 1
 unfolding tens
 length-decimal n h = length-spelled mostDigits n 9 (omega arith)
 
--- one of 64 bits twenty
-pub length-digits : (n : ℕ) → n < 0x10000000000000000 → length (decimal n) ≤ mostDigits
-unfolding tens
-length-digits n h = length-spelled mostDigits n 19 (omega arith)
+-- and none has more than there is room for
+room-spelled : (k n : ℕ) → length (spelled k n) ≤ k
+unfolding spelled
+room-spelled zero n = zero-le
+room-spelled (suc k) n =
+    rw (length-append (cond (eqb (n / 10) 0) [] (spelled k (n / 10))) (digit (n % 10) ∷ []))
+    (cond-elim (λ (l : List ℕ). length l + 1 ≤ suc k) (eqb (n / 10) 0) (λ e. omega arith)
+    (λ e. omega (arith, room-spelled k (n / 10))))
+
+pub length-digits : (n : ℕ) → length (decimal n) ≤ mostDigits
+length-digits n = room-spelled mostDigits n
 
 -- the decimal digits of a 64-bit number stand for it
 pub value-decimal : (n : ℕ) → n < 0x10000000000000000 → value 0 (decimal n) ≡ n

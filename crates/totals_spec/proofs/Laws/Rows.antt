@@ -1,6 +1,6 @@
 -- The longest row of a report has room in its stated places.
 -- Assumes nothing.
-use Prim.Native.Nat.{ℕ, _+_, _-_, _≤_, _<_}
+use Prim.Native.Nat.{ℕ, _+_, _-_, _≤_}
 use mathlib.Core.Path.{_≡_, refl, ap}
 use native.Mathlib.Decide.{decLe}
 use native.Mathlib.Omega.{arith}
@@ -15,32 +15,25 @@ use Rattle.tape_spec.specs.declared.tape.Line.the-variants.{Point, Addressed}
 use Rattle.totals_spec.specs.declared.totals.Sums.{Sums}
 use Rattle.totals_spec.specs.Rows.{lineName, sumsRow, mostRow}
 
--- the sums have room in 64 bits
-pub record Fits (s : Sums) : Type 0 where
-  pub frames : s .frames < 0x10000000000000000
-  pub heard : s .heard < 0x10000000000000000
-  pub inside : s .inside < 0x10000000000000000
-  pub reserved : s .reserved < 0x10000000000000000
-
 length-name : (line : Line) → length (lineName line) ≡ 1
 unfolding lineName ascii
 length-name Point = refl
 length-name Addressed = refl
 
-length-signed : (a b : ℕ) → a < 0x10000000000000000 → b < 0x10000000000000000 → length (signed (pos a -ℤ pos b)) ≤ 1 + mostDigits
-length-signed a b h k = go (decLe b a)
+length-signed : (a b : ℕ) → length (signed (pos a -ℤ pos b)) ≤ 1 + mostDigits
+length-signed a b = go (decLe b a)
   where
     go : Dec (b ≤ a) → length (signed (pos a -ℤ pos b)) ≤ 1 + mostDigits
-    go (yes le) = omega (arith, ap length (signed-above a b le), length-digits (a - b) (omega arith))
-    go (no lt) = omega (arith, ap length (signed-below a b (omega arith)), length-digits (b - a) (omega arith))
+    go (yes le) = omega (arith, ap length (signed-above a b le), length-digits (a - b))
+    go (no lt) = omega (arith, ap length (signed-below a b (omega arith)), length-digits (b - a))
 
-pub row-within : (line : Line) (s : Sums) → Fits s → length (sumsRow line s) ≤ mostRow
+pub row-within : (line : Line) (s : Sums) → length (sumsRow line s) ≤ mostRow
 unfolding sumsRow ascii
-row-within line s f =
+row-within line s =
     let n = length-name line in
-    let a = length-digits (s .frames) (f .frames) in
-    let b = length-digits (s .heard) (f .heard) in
-    let c = length-digits (s .inside) (f .inside) in
-    let d = length-digits (s .reserved) (f .reserved) in
-    let e = length-signed (s .reserved) (s .heard) (f .reserved) (f .heard) in
+    let a = length-digits (s .frames) in
+    let b = length-digits (s .heard) in
+    let c = length-digits (s .inside) in
+    let d = length-digits (s .reserved) in
+    let e = length-signed (s .reserved) (s .heard) in
     simp length-append (omega arith)

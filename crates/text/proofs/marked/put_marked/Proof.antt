@@ -31,11 +31,6 @@ front mark digits =
     ap (λ (n : ℕ). take n (laid (marks mark) 1 digits)) next
     ∙ ap (λ (l : List ℕ). mark ∷ l) (take-append-seam digits (drop (1 + length digits) (marks mark)))
 
-short : (c : tie.After-text2) → length (decimal (c .before .before .before .before .args .n)) ≤ mostDigits
-short c =
-    let e = c .before .before .before .before in
-    length-digits (e .args .n) (e .fits .n .fits)
-
 lies : (c : tie.After-text2)
     → let d = c .before in
     let a = d .before .before .before .args in
@@ -43,7 +38,7 @@ lies : (c : tie.After-text2)
 lies c =
     let d = c .before in
     let a = d .before .before .before .args in
-    d .put-decimal .ensures ∙ put-placed (decimal (a .n)) (marks (a .mark)) 1 (omega (arith, short c))
+    d .put-decimal .ensures ∙ put-placed (decimal (a .n)) (marks (a .mark)) 1 (omega (arith, length-digits (a .n)))
 
 ends : (c : tie.After-text2) → c .before .put-decimal .result .end ≤ length (c .before .put-decimal .last .1 .0)
 ends c =
@@ -52,8 +47,8 @@ ends c =
       arith,
       ap (λ (d : Ended). d .end) (lies c),
       ap (λ (d : Ended). length (d .out)) (lies c),
-      length-laid (marks (a .mark)) 1 (decimal (a .n)) (omega (arith, short c)),
-      short c,
+      length-laid (marks (a .mark)) 1 (decimal (a .n)) (omega (arith, length-digits (a .n))),
+      length-digits (a .n),
     )
 
 array-share-prefix-text : tie.Need-array-share-prefix-text

@@ -1,6 +1,6 @@
 -- `sweep::is_address`: on the point line no byte is, and on the addressed line only the first.
 -- Assumes nothing.
-use mathlib.Core.Path.{_≡_, subst, subst⁻¹}
+use mathlib.Core.Path.{_≡_, subst⁻¹}
 use mathlib.Core.Bool.{false, true≢false}
 use Prim.Native.Nat.{ℕ, zero, suc}
 use borrow.Author.Needs.{needs}

@@ -13,9 +13,9 @@ use Rattle.ground.proofs.Laws.Laying.{length-laid, last, then, puts-placed, tak
 use Rattle.text.specs.Ascii.{ascii}
 use Rattle.text.specs.Decimal.{decimal, signed}
 use Rattle.totals_spec.specs.Rows.{lineName, field, sumsRow, mostRow}
-use Rattle.totals_spec.proofs.Laws.Rows.{Fits, row-within}
-use Rattle.tally.proofs.row.write_sums.Statement.{statement}
-use Rattle.tally.proofs.row.write_sums.Tie as tie
+use Rattle.totals_spec.proofs.Laws.Rows.{row-within}
+use Rattle.report_rows.proofs.row.write_sums.Statement.{statement}
+use Rattle.report_rows.proofs.row.write_sums.Tie as tie
 
 slice-aggregate-put-name : tie.Need-slice-aggregate-put-name
 slice-aggregate-put-name c = search needs
@@ -82,11 +82,6 @@ named c =
 abbrev asked : tie.After-row16 → List ℕ
 asked c = let a = named c .before .before .before .args in sumsRow (a .line) (a .sums)
 
-fits : (c : tie.After-row16) → Fits (named c .before .before .before .args .sums)
-fits c =
-    let g = named c .before .before .before .good .1 .0 .1 .1 in
-    record { frames = g .0 .1; heard = g .1 .0 .1; inside = g .1 .1 .0 .1; reserved = g .1 .1 .1 .0 .1 }
-
 -- it was put to the front of its places
 lies : (c : tie.After-row16) → ended (c .before .put2 .result) (c .before .put2 .last .1 .0) ≡ placed (asked c) (replicate mostRow 0) 0
 unfolding sumsRow ascii
@@ -111,12 +106,12 @@ lies c =
     (then (signed (pos (s .reserved) -ℤ pos (s .heard))) (d .put-difference .result) (d .put-difference .last .1 .1 .0) (d .put-difference .ensures)
     (last (p .put2 .ensures)))))))))
     zero-le
-    (row-within (a .line) (a .sums) (fits c))
+    (row-within (a .line) (a .sums))
 
 ends : (c : tie.After-row16) → c .before .put2 .result .end ≤ length (c .before .put2 .last .1 .0)
 ends c =
     let a = named c .before .before .before .args in
-    let short = row-within (a .line) (a .sums) (fits c) in
+    let short = row-within (a .line) (a .sums) in
     omega (
       arith,
       ap (λ (d : Ended). d .end) (lies c),

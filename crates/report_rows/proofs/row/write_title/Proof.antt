@@ -3,8 +3,8 @@
 use borrow.Author.Needs.{needs}
 use Rattle.text.specs.Ascii.{ascii}
 use Rattle.totals_spec.specs.Rows.{titleRow}
-use Rattle.tally.proofs.row.write_title.Statement.{statement}
-use Rattle.tally.proofs.row.write_title.Tie as tie
+use Rattle.report_rows.proofs.row.write_title.Statement.{statement}
+use Rattle.report_rows.proofs.row.write_title.Tie as tie
 
 slice-aggregate-put : tie.Need-slice-aggregate-put
 slice-aggregate-put c = search needs

@@ -3,8 +3,8 @@
 use borrow.Author.Needs.{needs}
 use Rattle.text.specs.Ascii.{ascii}
 use Rattle.totals_spec.specs.Rows.{lineName}
-use Rattle.tally.proofs.row.put_name.Statement.{statement}
-use Rattle.tally.proofs.row.put_name.Tie as tie
+use Rattle.report_rows.proofs.row.put_name.Statement.{statement}
+use Rattle.report_rows.proofs.row.put_name.Tie as tie
 
 enum-told : tie.Need-enum-told
 enum-told c = search needs
