@@ -4,7 +4,7 @@ use crate::line::hear;
 use crate::split::split;
 use ground::Refusal;
 use ground::least;
-use tally::is_bad_totals;
+use ledger::is_bad_totals;
 use tape_spec::Next;
 use tape_spec::Receivers;
 use tape_spec::Tape;

@@ -6,11 +6,13 @@ mod sweep;
 
 pub use chunk::add;
 pub use ends::write_ending;
+pub use ledger::fresh_totals;
+pub use ledger::report;
 pub use reel::is_over;
 pub use report_rows::write_sums;
 pub use report_rows::write_title;
-pub use tally::fresh_totals;
-pub use tally::report;
+pub use tape_spec::Ending;
+pub use tape_spec::Line;
 pub use totals_spec::Added;
 pub use totals_spec::LineReport;
 pub use totals_spec::Report;

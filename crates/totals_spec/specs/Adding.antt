@@ -1,5 +1,5 @@
 -- What the calls that add up a tape answer, for every input. 02, L1, and 01, Refusal numbers, row 4 in its sense (docs/DECISIONS.md,
--- tally, report_rows and totals). Assumes nothing.
+-- ledger, report_rows and totals). Assumes nothing.
 use Prim.Native.Nat.{ℕ, _+_, _*_}
 use mathlib.Core.Bool.{Bool, cond, _||_}
 use mathlib.Core.List.{List, [], _∷_}

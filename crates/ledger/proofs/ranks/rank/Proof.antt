@@ -9,8 +9,8 @@ use Rattle.totals_spec.specs.declared.totals.Sums.{Sums}
 use Rattle.totals_spec.specs.Whole.{ranked}
 use Rattle.totals_spec.specs.Adding.{badSums}
 use Rattle.totals_spec.proofs.Laws.Counting.{sums-within}
-use Rattle.tally.proofs.ranks.rank.Statement.{statement}
-use Rattle.tally.proofs.ranks.rank.Tie as tie
+use Rattle.ledger.proofs.ranks.rank.Statement.{statement}
+use Rattle.ledger.proofs.ranks.rank.Tie as tie
 
 -- what 2^32 - 1 records can give is far below 2^63
 small : (records : ℕ) (s : Sums) → records ≤ mostRecords → badSums records s ≡ false

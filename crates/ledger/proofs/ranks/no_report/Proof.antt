@@ -5,8 +5,8 @@ use native.Mathlib.Omega.{arith}
 use borrow.Author.Needs.{needs}
 use Rattle.tape_spec.specs.declared.tape.Line.the-variants.{Point, Addressed}
 use Rattle.totals_spec.specs.Whole.{lineReport}
-use Rattle.tally.proofs.ranks.no_report.Statement.{statement}
-use Rattle.tally.proofs.ranks.no_report.Tie as tie
+use Rattle.ledger.proofs.ranks.no_report.Statement.{statement}
+use Rattle.ledger.proofs.ranks.no_report.Tie as tie
 
 nothing-requires : tie.Need-nothing-requires
 nothing-requires c κs = search needs

@@ -2,8 +2,8 @@
 -- Assumes nothing.
 use mathlib.Core.Path.{refl}
 use borrow.Author.Needs.{needs}
-use Rattle.tally.proofs.state.fresh_totals.Statement.{statement}
-use Rattle.tally.proofs.state.fresh_totals.Tie as tie
+use Rattle.ledger.proofs.state.fresh_totals.Statement.{statement}
+use Rattle.ledger.proofs.state.fresh_totals.Tie as tie
 
 fresh-tape-requires : tie.Need-fresh-tape-requires
 fresh-tape-requires c κs = search needs

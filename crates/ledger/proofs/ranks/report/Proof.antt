@@ -16,8 +16,8 @@ use Rattle.tape_spec.proofs.tape.Ending as ending-type
 use Rattle.totals_spec.specs.Whole.{ranked, isFull}
 use Rattle.totals_spec.specs.Adding.{badSums}
 use Rattle.totals_spec.proofs.Laws.Adding.{report-bad, report-long, reports}
-use Rattle.tally.proofs.ranks.report.Statement.{statement}
-use Rattle.tally.proofs.ranks.report.Tie as tie
+use Rattle.ledger.proofs.ranks.report.Statement.{statement}
+use Rattle.ledger.proofs.ranks.report.Tie as tie
 
 -- the arm of the other endings
 short : (e : Ending) → OneOf (0 ∷ 1 ∷ 2 ∷ []) (tagOf ending-type.the-type e) → isFull e ≡ false

@@ -2,8 +2,8 @@
 -- Assumes nothing.
 use mathlib.Core.Path.{sym, _∙_}
 use borrow.Author.Needs.{needs}
-use Rattle.tally.proofs.state.is_bad_totals.Statement.{statement}
-use Rattle.tally.proofs.state.is_bad_totals.Tie as tie
+use Rattle.ledger.proofs.state.is_bad_totals.Statement.{statement}
+use Rattle.ledger.proofs.state.is_bad_totals.Tie as tie
 
 is-bad-tape-requires : tie.Need-is-bad-tape-requires
 is-bad-tape-requires c κs = search needs

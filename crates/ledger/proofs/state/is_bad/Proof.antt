@@ -2,8 +2,8 @@
 -- Assumes nothing.
 use borrow.Author.Needs.{needs}
 use borrow.Author.Tests.{lt-ltb, le-ltb}
-use Rattle.tally.proofs.state.is_bad.Statement.{statement}
-use Rattle.tally.proofs.state.is_bad.Tie as tie
+use Rattle.ledger.proofs.state.is_bad.Statement.{statement}
+use Rattle.ledger.proofs.state.is_bad.Tie as tie
 
 returns : tie.Need-returns
 returns c = rw (lt-ltb _ _ (c .if1 .taken))

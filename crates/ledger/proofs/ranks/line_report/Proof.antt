@@ -10,8 +10,8 @@ use mir.Val.{SFits}
 use mir.Facts.{toZ-pos, toZ-ofZ}
 use lib.IntN.{ℤ, pos, _-ℤ_}
 use Rattle.text.proofs.Laws.Signed.{less-above, less-below}
-use Rattle.tally.proofs.ranks.line_report.Statement.{statement}
-use Rattle.tally.proofs.ranks.line_report.Tie as tie
+use Rattle.ledger.proofs.ranks.line_report.Statement.{statement}
+use Rattle.ledger.proofs.ranks.line_report.Tie as tie
 
 less-fits : (a b : ℕ) → a < 0x8000000000000000 → b < 0x8000000000000000 → SFits w64 (pos a -ℤ pos b)
 less-fits a b h k = go (decLe b a)
