@@ -9,9 +9,14 @@ pub const MOST_ANTENNA: usize = 8;
 pub const ACKNOWLEDGEMENT: u8 = 0x2A;
 pub const ACK: u8 = 0x55;
 
-/// The interface speeds.
+/// The interface speeds (003, parameter 02).
 pub fn is_speed(byte: u8) -> bool {
     (3..=10).contains(&byte)
+}
+
+/// The speeds above 115200: not every reader takes them, and none keeps them (003; 02, L2).
+pub fn is_fast_speed(byte: u8) -> bool {
+    (8..=10).contains(&byte)
 }
 
 #[derive(Clone, Copy, Debug, PartialEq, Eq)]

@@ -60,3 +60,32 @@ fn acknowledgement(data: &[u8], ack_is_due: bool) -> Result<Reply, Refusal> {
         _ => Err(Refusal::WrongLength),
     }
 }
+
+#[cfg(test)]
+mod tests {
+    use super::*;
+
+    /// 02, L2: the master takes requests for 3..10, whatever its reader takes.
+    #[test]
+    fn a_write_of_any_speed_may_be_answered_by_ack_or_nack_3() {
+        for speed in 0..=u8::MAX {
+            let request = Request {
+                identifier: 0x01,
+                code: 0x01,
+                data: &[0x02, speed],
+            };
+            let good = (3..=10).contains(&speed);
+            let due = |reply| {
+                if good {
+                    Ok(reply)
+                } else {
+                    Err(Refusal::BadRequest)
+                }
+            };
+            let read = |reason| request.read(&[0x01, ACKNOWLEDGEMENT, reason]);
+            assert_eq!(request.write(&mut [0; 10]).is_ok(), good);
+            assert_eq!(read(ACK), due(Reply::Ack));
+            assert_eq!(read(3), due(Reply::Nack(3)));
+        }
+    }
+}

@@ -1,7 +1,8 @@
-//! The point reader (01, 'The point reader').
+//! The point reader (01, 'The point reader'), slow or fast (02, L2).
 
 use crate::command::{
-    is_speed, Command, Parameter, Unfit, ACK, ACKNOWLEDGEMENT, HEADER_LENGTH, MOST_ANTENNA,
+    is_fast_speed, is_speed, Command, Parameter, Unfit, ACK, ACKNOWLEDGEMENT, HEADER_LENGTH,
+    MOST_ANTENNA,
 };
 use crate::frame::Line;
 use crate::refusal::Refusal;
@@ -11,21 +12,25 @@ use crate::search::Event;
 const ROOM: usize = 130;
 /// A frame's content without check, in bytes.
 const FIELDS: std::ops::RangeInclusive<usize> = 2..=62;
+/// The speed of a fresh reader, 9600, to which a power-on returns from a fast one.
+const FIRST_SPEED: u8 = 3;
 
 /// The last executed command, and the length of its stored reply.
-#[derive(Clone, Copy)]
+#[derive(Clone, Copy, Debug, PartialEq, Eq)]
 pub struct Last {
     pub identifier: u8,
     pub command: u8,
     pub length: usize,
 }
 
-#[derive(Clone)]
+#[derive(Clone, Debug, PartialEq, Eq)]
 pub struct Reader {
     pub speed: u8,
     pub parameter_05: [u8; 4],
     pub parameter_80: [u8; 8],
     pub last: Option<Last>,
+    /// Whether its model takes the fast speeds; set when it is made.
+    pub fast: bool,
 }
 
 /// What the reader finds in its device at a call.
@@ -42,24 +47,28 @@ pub struct Lent<'a> {
 }
 
 /// The bytes to send: the front part of one of the two buffers.
-#[derive(Clone, Copy)]
+#[derive(Clone, Copy, Debug, PartialEq, Eq)]
 pub enum Part {
     Out(usize),
     Store(usize),
 }
 
 impl Reader {
-    pub fn fresh() -> Reader {
+    pub fn fresh(fast: bool) -> Reader {
         Reader {
-            speed: 3,
+            speed: FIRST_SPEED,
             parameter_05: [0; 4],
             parameter_80: [0; 8],
             last: None,
+            fast,
         }
     }
 
     pub fn power_on(&mut self) -> Result<(), Refusal> {
         self.sound()?;
+        if is_fast_speed(self.speed) {
+            self.speed = FIRST_SPEED;
+        }
         self.last = None;
         Ok(())
     }
@@ -92,11 +101,16 @@ impl Reader {
 
     fn sound(&self) -> Result<(), Refusal> {
         let remembered = self.last.map_or(0, |last| last.length);
-        if is_speed(self.speed) && remembered <= ROOM {
+        if self.takes(self.speed) && remembered <= ROOM {
             Ok(())
         } else {
             Err(Refusal::BadState)
         }
+    }
+
+    /// Whether its model takes this speed.
+    fn takes(&self, speed: u8) -> bool {
+        is_speed(speed) && (self.fast || !is_fast_speed(speed))
     }
 
     /// Steps 3 to 6.
@@ -106,7 +120,7 @@ impl Reader {
         if let Some(last) = self.last.filter(repeats) {
             return Part::Store(last.length);
         }
-        let executable = match Command::of(command, data) {
+        let executable = match self.executable(command, data) {
             Err(Unfit::Code) => return send(lent, &nack(identifier, 2)),
             Err(Unfit::Data) => return send(lent, &nack(identifier, 3)),
             Ok(executable) => executable,
@@ -125,6 +139,14 @@ impl Reader {
             length: sent.len(),
         });
         part
+    }
+
+    /// Steps 4 and 5; the latter also refuses a speed that this model does not take.
+    fn executable(&self, code: u8, data: &[u8]) -> Result<Command, Unfit> {
+        match Command::of(code, data)? {
+            Command::Write(Parameter::Speed, value) if !self.takes(value[0]) => Err(Unfit::Data),
+            command => Ok(command),
+        }
     }
 
     fn execute(&mut self, command: Command, device: &Device) -> Done {
@@ -177,5 +199,155 @@ impl Lent<'_> {
             Part::Store(length) => self.store.get(..length),
         };
         front.unwrap_or(&[])
+    }
+}
+
+#[cfg(test)]
+mod tests {
+    use super::*;
+
+    const FILL: u8 = 0xEE;
+
+    /// A reader, its store and its out buffer.
+    #[derive(Clone, Debug, PartialEq, Eq)]
+    struct Set {
+        reader: Reader,
+        store: [u8; ROOM],
+        out: [u8; ROOM],
+    }
+
+    impl Set {
+        /// A reader that has executed 07.10.
+        fn of(fast: bool, speed: u8) -> Set {
+            let last = Last {
+                identifier: 0x07,
+                command: 0x10,
+                length: 7,
+            };
+            let reader = Reader {
+                speed,
+                parameter_05: [5; 4],
+                parameter_80: [8; 8],
+                last: Some(last),
+                fast,
+            };
+            Set {
+                reader,
+                store: [FILL; ROOM],
+                out: [FILL; ROOM],
+            }
+        }
+
+        fn call(&mut self, fields: &[u8]) -> Result<Part, Refusal> {
+            let device = Device {
+                header: &[0; HEADER_LENGTH],
+                antenna: &[],
+            };
+            let mut lent = Lent {
+                store: &mut self.store,
+                out: &mut self.out,
+            };
+            let event = Event::Frame(fields.to_vec());
+            self.reader.call(Some(&event), &device, &mut lent)
+        }
+
+        /// What is sent for a write of this speed, with identifier 01.
+        fn write(&mut self, speed: u8) -> Vec<u8> {
+            let Ok(Part::Out(length)) = self.call(&[0x01, 0x01, 0x02, speed]) else {
+                panic!("not from out");
+            };
+            self.out[..length].to_vec()
+        }
+    }
+
+    fn acknowledged(reason: u8) -> Vec<u8> {
+        Line::Point.image(&[0x01, ACKNOWLEDGEMENT, reason])
+    }
+
+    #[test]
+    fn a_power_on_keeps_all_but_a_fast_speed_and_the_last_command() {
+        for (fast, speed, kept) in [
+            (false, 3, 3),
+            (false, 7, 7),
+            (true, 3, 3),
+            (true, 7, 7),
+            (true, 8, 3),
+            (true, 9, 3),
+            (true, 10, 3),
+        ] {
+            let before = Set::of(fast, speed).reader;
+            let mut reader = before.clone();
+            assert_eq!(reader.power_on(), Ok(()));
+            let after = Reader {
+                speed: kept,
+                last: None,
+                ..before
+            };
+            assert_eq!(reader, after);
+        }
+    }
+
+    #[test]
+    fn a_fast_speed_in_a_slow_record_is_bad_state() {
+        for (fast, speed) in [
+            (false, 2),
+            (false, 8),
+            (false, 9),
+            (false, 10),
+            (false, 11),
+            (true, 2),
+            (true, 11),
+        ] {
+            let before = Set::of(fast, speed);
+            let mut set = before.clone();
+            assert_eq!(set.call(&[0x07, 0x10]), Err(Refusal::BadState));
+            assert_eq!(set.reader.power_on(), Err(Refusal::BadState));
+            assert_eq!(set, before);
+        }
+    }
+
+    #[test]
+    fn a_slow_reader_answers_nack_3_to_a_fast_speed_and_remembers_nothing() {
+        for speed in 8..=10 {
+            let before = Set::of(false, 7);
+            let mut set = before.clone();
+            assert_eq!(set.write(speed), acknowledged(3));
+            assert_eq!((&set.reader, set.store), (&before.reader, before.store));
+            assert_eq!(set.call(&[0x07, 0x10]), Ok(Part::Store(7)));
+            assert_eq!(set.write(6), acknowledged(ACK));
+            assert_eq!(set.reader.speed, 6);
+        }
+    }
+
+    #[test]
+    fn every_other_speed_is_written_by_slow_and_by_fast_readers() {
+        for (fast, most) in [(false, 7), (true, 10)] {
+            for speed in 3..=most {
+                let mut set = Set::of(fast, 3);
+                assert_eq!(set.write(speed), acknowledged(ACK));
+                assert_eq!((set.reader.speed, set.reader.fast), (speed, fast));
+            }
+        }
+    }
+
+    #[test]
+    fn a_repeat_goes_before_the_nack_3() {
+        let mut set = Set::of(false, 3);
+        set.write(7);
+        let written = set.clone();
+        let again = set.call(&[0x01, 0x01, 0x02, 9]);
+        assert_eq!(again, Ok(Part::Store(acknowledged(ACK).len())));
+        assert_eq!(set, written);
+    }
+
+    #[test]
+    fn after_a_power_on_the_same_write_is_executed_again() {
+        let mut set = Set::of(true, 3);
+        for _ in 0..2 {
+            assert_eq!(set.write(9), acknowledged(ACK));
+            assert_eq!(set.reader.speed, 9);
+            assert_eq!(set.reader.power_on(), Ok(()));
+            assert_eq!(set.reader.speed, 3);
+        }
     }
 }

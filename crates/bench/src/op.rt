@@ -36,6 +36,7 @@ pub(crate) fn with_code(code: u8) -> Coded {
         0x23 => Op::Reader(ReaderOp::Buffers),
         0x24 => Op::Write(Writer::Request),
         0x25 => Op::Reading,
+        0x26 => Op::Reader(ReaderOp::NewReader),
         0x27 => Op::Reader(ReaderOp::SetHeader),
         _ => return Coded::Unknown,
     };

@@ -30,12 +30,13 @@ pub(crate) struct Device {
     header: [u8; HEADER_LENGTH],
 }
 
-// What a record asks of the reader: an answer, a power-on, both buffers, or a state or a device header to be put.
+// What a record asks of the reader: an answer, a power-on, both buffers, a fresh reader, or a state or a device header to be put.
 pub(crate) enum ReaderOp {
     Answer,
     PowerOn,
     Buffers,
     SetReader,
+    NewReader,
     SetHeader,
 }
 
@@ -54,7 +55,7 @@ struct Rooms {
 impl Device {
     pub(crate) fn fresh() -> Device {
         Device {
-            reader: fresh_reader(),
+            reader: fresh_reader(true),
             store: [UNTOUCHED; MOST_ROOM],
             out: [UNTOUCHED; MOST_ROOM],
             header: first_header(),
@@ -67,6 +68,7 @@ impl Device {
             ReaderOp::PowerOn => self.power_on(row),
             ReaderOp::Buffers => self.put_buffers(row),
             ReaderOp::SetReader => self.set_reader(payload, row),
+            ReaderOp::NewReader => self.new_reader(payload, row),
             ReaderOp::SetHeader => self.set_header(payload, row),
         }
     }
@@ -148,16 +150,30 @@ impl Device {
         self.done(row.bytes(&out).bytes(&store))
     }
 
-    // Payload: speed, parameter 05, parameter 80, has, identifier, command, length. Puts no field.
+    // Payload: speed, parameter 05, parameter 80, has, identifier, command, length, fast. Puts no field.
     fn set_reader(mut self, payload: &[u8], row: Row) -> Served {
-        if payload.len() < 18 {
+        if payload.len() < 19 {
             return self.short(row);
         }
         let parameters = parameters(payload);
         let memory = memory(payload);
-        let reader = Reader { parameters, memory };
+        let reader = Reader {
+            parameters,
+            fast: payload[18] != 0,
+            memory,
+        };
         self.reader = reader;
         self.done(row)
+    }
+
+    // Payload: fast.
+    fn new_reader(mut self, payload: &[u8], row: Row) -> Served {
+        if payload.len() < 1 {
+            return self.short(row);
+        }
+        let reader = fresh_reader(payload[0] != 0);
+        self.reader = reader;
+        self.done(put_reader(reader, row))
     }
 
     // Payload: header. Puts no field.
@@ -213,11 +229,16 @@ fn put_buffer(buffer: Buffer, row: Row) -> Row {
     }
 }
 
-// The reader's state: the parameters, and the last executed command with its length.
+// The reader's state: the parameters, the last executed command with its length, and whether it is fast.
 fn put_reader(reader: Reader, row: Row) -> Row {
     let parameters = reader.parameters;
     let memory = reader.memory;
-    put_memory(memory, put_parameters(parameters, row))
+    let row = put_memory(memory, put_parameters(parameters, row));
+    if reader.fast {
+        row.word(b"fast")
+    } else {
+        row.word(b"slow")
+    }
 }
 
 fn put_parameters(parameters: Parameters, row: Row) -> Row {

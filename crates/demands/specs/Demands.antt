@@ -40,7 +40,7 @@ use Rattle.reader_spec.specs.Asking.{asking}
 use Rattle.reader_spec.specs.Replies.{replyImage}
 use Rattle.reader_spec.specs.Sending.{Buffers}
 use Rattle.reader_spec.specs.Answering.{powering, poweredOn, Input}
-use Rattle.reader_spec.specs.Sessions.{History, begun, isExecuted, asksFor, nextHistory, StoreKept, Call, Done, bytesSent, ReaderSession, Idle, Unwritten}
+use Rattle.reader_spec.specs.Sessions.{History, begun, isExecuted, asksFor, nextHistory, StoreKept, Call, Done, bytesSent, ReaderSession, Idle, Unwritten, leftOf}
 use Rattle.reader_spec.specs.Promises.{Repeated}
 use Rattle.tape_spec.specs.declared.tape.Tape.{Tape}
 use Rattle.tape_spec.specs.declared.tape.Listed.{Listed}
@@ -89,7 +89,7 @@ pub record Demand2 : Type 0 where
   pub stuffed : (content : List ℕ) → unstuffing (stuffing content) ≡ some content
   -- each call of a session answers as the paper's steps say; there are sessions, every call can be made in one, and no power-on is refused
   pub answers : {alone : Bool} {s : Reader} {held : List ℕ} {h : History} → ReaderSession alone s held h → (c : Call alone h s held) → WellAnswered c
-  pub begins : (alone : Bool) (store : List ℕ) → (s : Reader) × ReaderSession alone s store begun
+  pub begins : (alone fast : Bool) (store : List ℕ) → (s : Reader) × ReaderSession alone s store (begun fast)
   pub goesOn : {alone : Bool} {h : History} {s : Reader} {held : List ℕ} (i : Input) (lent : Buffers) → StoreKept alone h held (lent .store)
       → length (i .header) ≡ headerLength → (c : Call alone h s held) × (c .input ≡ i) × (c .lent ≡ lent)
   pub powers : {alone : Bool} {s : Reader} {held : List ℕ} {h : History} → ReaderSession alone s held h → (r : Powered)
@@ -98,12 +98,13 @@ pub record Demand2 : Type 0 where
   pub nackRead : (n identifier code : ℕ) («data» before rest : List ℕ) {command : Command} {m : Receiver} {all : List Told} → 1 ≤ n → n ≤ 6
       → Accepts code «data» command → IsFresh Point m → let bytes = replyImage identifier sign (NACK n) in
       Hearing (before ++ (bytes ++ rest)) m 0 all → HeardAndRead identifier code «data» before all bytes (NACK n)
-  -- what was written to a parameter is what a later read sends, until another write of it
-  pub values : {alone : Bool} {s t : Reader} {held kept : List ℕ} {h k : History} {p : Parameter} → ReaderSession alone s held h
+  -- what was written to a parameter is what a later read sends, until another write of it or, for a speed above 7, a power-on, which leaves 3
+  pub values : {alone restarted : Bool} {s t : Reader} {held kept : List ℕ} {h k : History} {p : Parameter} → ReaderSession alone s held h
       → (w : Call alone h s held) → Done w → isExecuted h (w .input) ≡ true → asksFor (w .input) ≡ Accepted (Write p)
-      → Unwritten alone p (w .answer .reader) (w .left .store) (nextHistory h (w .input)) t kept k
+      → Unwritten alone p (w .answer .reader) (w .left .store) (nextHistory h (w .input)) t kept k restarted
       → (r : Call alone k t kept) → Done r → isExecuted k (r .input) ≡ true → asksFor (r .input) ≡ Accepted (Read p)
-      → bytesSent r ≡ replyImage (identifierOf (r .input .content)) (commandOf (r .input .content)) (DATA (drop 1 (dataOf (w .input .content))))
+      → bytesSent r ≡ replyImage (identifierOf (r .input .content)) (commandOf (r .input .content))
+      (DATA (leftOf restarted p (drop 1 (dataOf (w .input .content)))))
   -- after a command was executed, and any calls that execute nothing and leave what is remembered of the store, a frame with its identifier and
   -- command, in a call that is not refused, gets the stored reply and changes nothing
   pub repeats : {s t : Reader} {held kept : List ℕ} {h : History} → ReaderSession false s held h

@@ -1,6 +1,6 @@
 -- What is promised of one call of the point line's reader, and of its reply: a request that came is executed, or answered with a NACK; the reply
 -- is heard, and the master reads in it what it is.
--- 01, The point reader and 'Master's side'. Assumes nothing.
+-- 01, The point reader and 'Master's side'; 02, L2. Assumes nothing.
 use mathlib.Core.Path.{_≡_}
 use mathlib.Core.Bool.{Bool, true, false}
 use mathlib.Core.List.{List, _∷_, _++_, List·Memᴰ}
@@ -19,6 +19,7 @@ use Rattle.request_spec.specs.Replies.{Reply, NACK, sign, identifierOf, frontOf
 use Rattle.request_spec.specs.Reading.{hasRead, replyRead}
 use Rattle.reader_spec.specs.declared.reader.Asking.the-variants.{Right}
 use Rattle.reader_spec.specs.declared.reader.Reader.{Reader}
+use Rattle.reader_spec.specs.Speeds.{FastWrite}
 use Rattle.reader_spec.specs.State.{stateOf}
 use Rattle.reader_spec.specs.Asking.{asking}
 use Rattle.reader_spec.specs.Replies.{IsAnswer, replyImage, replyTo}
@@ -39,6 +40,7 @@ module _ {alone : Bool} {h : History} {s : Reader} {held : List ℕ} (c : Call a
   pub record RequestExecuted (command : Command) : Type 0 where
     pub asked : asksFor (c .input) ≡ Accepted command
     pub done : Done c
+    pub does : isExecuted h (c .input) ≡ true
     pub sends : bytesSent c ≡ bytesOf (c .input .content) (some (replyTo (h .value) command (c .input .header) (c .input .antenna)))
     pub reply : IsAnswer (replyTo (h .value) command (c .input .header) (c .input .antenna))
     pub goesOn : ReaderSession alone (c .answer .reader) (c .left .store) (judgedHistory h (c .input) (Accepted command))
@@ -50,6 +52,7 @@ module _ {alone : Bool} {h : History} {s : Reader} {held : List ℕ} (c : Call a
   -- it answered the request with the NACK of this number, and nothing else
   pub record RequestNacked (n : ℕ) : Type 0 where
     pub done : Done c
+    pub idle : isExecuted h (c .input) ≡ false
     pub sends : bytesSent c ≡ replyImage (identifierOf (c .input .content)) sign (NACK n)
     pub unchanged : ChangesNothing
 
@@ -66,9 +69,12 @@ pub record WellAnswered {alone : Bool} {h : History} {s : Reader} {held : List �
   pub recalls : Done c → asking (c .input .event) ≡ Right → repeatsLast h (c .input) ≡ true → Recalls c
   -- with good buffers and a content that fits it is not refused
   pub fine : LentWell (c .input) (c .lent) → (Unfit (c .input) → ⊥) → Done c
-  -- a request of the paper's table is executed
+  -- a request of the paper's table is executed, but not by a slow reader if it writes a speed of 8..10: that is NACK 3
   pub executes : (identifier code : ℕ) («data» : List ℕ) {command : Command} → Asks c identifier code «data» → Accepts code «data» command
+      → (h .fast ≡ false → FastWrite code «data» → ⊥)
       → RequestExecuted c command
+  pub nacksSpeed : (identifier code : ℕ) («data» : List ℕ) → Asks c identifier code «data» → h .fast ≡ false → FastWrite code «data»
+      → RequestNacked c 3
   -- any other, if a frame can carry it, gets NACK 2 where the table has no row with its code, and NACK 3 where it has none with its data
   pub nacksCode : (identifier code : ℕ) («data» : List ℕ) → Asks c identifier code «data»
       → ((other : List ℕ) (command : Command) → Accepts code other command → ⊥)

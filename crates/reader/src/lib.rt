@@ -1,9 +1,9 @@
-// The point reader: a fresh one, power-on, the call that does the steps with what was heard, and the part of a buffer to send.
+// The point reader: the call that does the steps with what was heard, and the part of a buffer to send. A fresh one and power-on are
+// handed on.
 mod asking;
 mod buffer;
 mod memory;
 mod reply;
-mod state;
 mod steps;
 mod values;
 
@@ -17,6 +17,6 @@ pub use reader_spec::Parameters;
 pub use reader_spec::Powered;
 pub use reader_spec::ROOM;
 pub use reader_spec::Reader;
-pub use state::fresh_reader;
-pub use state::power_on;
+pub use reader_state::fresh_reader;
+pub use reader_state::power_on;
 pub use steps::answer;

@@ -1,9 +1,8 @@
 // Whether a frame repeats the last executed command.
 use reader_spec::Memory;
-use reader_spec::ROOM;
 use reader_spec::Repeat;
 ghost use mathlib.Core.Path.{_≡_};
-ghost use Rattle.reader_spec.specs.State.{remembered, find as findOf, tooFar};
+ghost use Rattle.reader_spec.specs.State.{remembered, find as findOf};
 
 // What a frame with this identifier and command is.
 pub(crate) fn find(memory: Memory, identifier: u8, command: u8) -> Repeat
@@ -24,19 +23,5 @@ pub(crate) fn find(memory: Memory, identifier: u8, command: u8) -> Repeat
             }
             Repeat::Stored(length)
         }
-    }
-}
-
-// Whether the remembered length is over 130.
-pub(crate) fn is_too_far(memory: Memory) -> bool
-    ensures { λ r. ⌜ r ≡ tooFar (remembered memory) ⌝ }
-{
-    match memory {
-        Memory::None => false,
-        Memory::Last {
-            identifier: _,
-            command: _,
-            length,
-        } => length > ROOM,
     }
 }

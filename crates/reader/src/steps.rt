@@ -4,7 +4,6 @@ use crate::memory::find;
 use crate::reply::WRONG_CHECK;
 use crate::reply::write_nack;
 use crate::reply::write_reply;
-use crate::state::is_bad;
 use crate::values::after_command;
 use ground::Refusal;
 use ground::put;
@@ -18,11 +17,12 @@ use reader_spec::Memory;
 use reader_spec::ROOM;
 use reader_spec::Reader;
 use reader_spec::Repeat;
+use reader_state::is_bad_reader;
+use reader_state::judge;
 use request::Acceptance;
 use request::Command;
 use request::HEADER_LENGTH;
 use request::MOST_ANTENNA;
-use request::accept;
 use request::nack_of;
 ghost use mathlib.Core.Path.{_≡_};
 ghost use mathlib.Core.Bool.{true};
@@ -49,7 +49,7 @@ pub fn answer(
 ) -> Answer
     ensures { λ r. ⌜ Answers reader (inputOf (named event) (now (content .entry)) header (now (antenna .entry))) (buffersOf (now (store .entry)) (now (out .entry))) r (buffersOf (now (store .exit)) (now (out .exit))) ⌝ }
 {
-    if is_bad(reader) {
+    if is_bad_reader(reader) {
         return refused(Refusal::BadState, reader);
     }
     if store.len() < ROOM {
@@ -112,8 +112,9 @@ fn answer_frame(
         return sending(reader, Buffer::Store, length);
     }
     let data = &content[2..];
-    let acceptance = accept(code, data);
-    match acceptance {
+    let fast = reader.fast;
+    let verdict = judge(fast, code, data);
+    match verdict {
         Acceptance::Accepted(command) => execute(
             reader,
             identifier,
@@ -159,7 +160,12 @@ fn execute(
         command: code,
         length,
     };
-    let reader = Reader { parameters, memory };
+    let fast = reader.fast;
+    let reader = Reader {
+        parameters,
+        fast,
+        memory,
+    };
     sending(reader, Buffer::Out, length)
 }
 

@@ -1,4 +1,5 @@
 -- The laws, each file with the noun that it speaks of.
+pub mod Speeds
 pub mod Parameters
 pub mod State
 pub mod Replies

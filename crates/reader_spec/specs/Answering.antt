@@ -1,9 +1,9 @@
 -- What the reader's calls answer, and what they leave in the two buffers, for every input.
--- 01, The point reader, by the numbers of its steps, and Refusal numbers, rows 1, 2, 4 and 5. Assumes nothing.
+-- 01, The point reader, by the numbers of its steps, and Refusal numbers, rows 1, 2, 4 and 5; 02, L2. Assumes nothing.
 use Prim.Native.Nat.{ℕ, _≤_, _<_}
 use mathlib.Core.Path.{_≡_}
 use mathlib.Core.Bool.{Bool, true, cond, _&&_, _||_}
-use mathlib.Core.List.{List}
+use mathlib.Core.List.{List, [], _∷_}
 use mathlib.Core.Option.{none, some}
 use lib.Dec.{ltb, leb}
 use lib.ListN.{length}
@@ -12,11 +12,12 @@ use Rattle.ground.specs.declared.refusal.Refusal.the-variants.{NoRoom, TooLong,
 use Rattle.ground.specs.Refusals.{number}
 use Rattle.ground.specs.Laying.{onto}
 use Rattle.link_spec.specs.Events.{Name, FRAME, CHECK}
+use Rattle.request_spec.specs.declared.parameter.Parameter.the-variants.{Speed}
 use Rattle.request_spec.specs.declared.command.Command.{Command}
 use Rattle.request_spec.specs.declared.command.Acceptance.{Acceptance}
 use Rattle.request_spec.specs.declared.command.Acceptance.the-variants.{Accepted, Faulty}
 use Rattle.request_spec.specs.Limits.{mostAntenna}
-use Rattle.request_spec.specs.Acceptance.{acceptance, nackOf}
+use Rattle.request_spec.specs.Acceptance.{nackOf}
 use Rattle.request_spec.specs.Replies.{NACK, sign, identifierOf, commandOf, dataOf, wrongCheck}
 use Rattle.reader_spec.specs.declared.reader.Asking.{Asking}
 use Rattle.reader_spec.specs.declared.reader.Asking.the-variants.{Nothing, Wrong, Right}
@@ -26,7 +27,8 @@ use Rattle.reader_spec.specs.declared.reader.Reader.{Reader}
 use Rattle.reader_spec.specs.declared.reader.Powered.{Powered}
 use Rattle.reader_spec.specs.declared.reader.Answer.{Answer}
 use Rattle.reader_spec.specs.Limits.{room, leastFront, mostFront}
-use Rattle.reader_spec.specs.Parameters.{valueOf, doneTo}
+use Rattle.reader_spec.specs.Speeds.{verdict}
+use Rattle.reader_spec.specs.Parameters.{valueOf, withValue, doneTo, afterPower}
 use Rattle.reader_spec.specs.State.{State, stateWith, stateOf, lastOf, find, badState, BadState}
 use Rattle.reader_spec.specs.Asking.{asking}
 use Rattle.reader_spec.specs.Replies.{replyImage, replyTo}
@@ -42,15 +44,19 @@ pub record PoweredOn : Type 0 where
 abbrev pub powering : Powered → PoweredOn
 powering r = record { refusal = number (r .refusal); state = stateOf (r .reader) }
 
--- a power-on forgets the last command and keeps all three parameters; 4 only
+-- a power-on forgets the last command and keeps all three parameters, but a speed of 8..10, and whether the reader is fast; 4 only
 unfoldable pub poweredOn : State → PoweredOn
 poweredOn s =
-    cond (badState s) (record { refusal = number BAD; state = s }) (record { refusal = 0; state = stateWith (s .parameters) none })
+    cond (badState s) (record { refusal = number BAD; state = s })
+    (record { refusal = 0; state = stateWith (afterPower (s .parameters)) (s .fast) none })
 
 -- row 4 for it, and else what it does. `Laws.Answering` proves that `poweredOn` answers by these, and that they leave it no other answer
 pub data PowerTable (s : State) : PoweredOn → Type 0 where
   refuses : BadState s → PowerTable s (record { refusal = number BAD; state = s })
-  forgets : (BadState s → ⊥) → PowerTable s (record { refusal = 0; state = stateWith (s .parameters) none })
+  keeps : (BadState s → ⊥) → s .parameters .speed ≤ 7
+      → PowerTable s (record { refusal = 0; state = stateWith (s .parameters) (s .fast) none })
+  slows : (BadState s → ⊥) → 8 ≤ s .parameters .speed
+      → PowerTable s (record { refusal = 0; state = stateWith (withValue (s .parameters) Speed (3 ∷ [])) (s .fast) none })
 
 -- ---- one call
 
@@ -101,11 +107,11 @@ module _ (s : State) (i : Input) (lent : Buffers) where
   abbrev pub executed : Command → Answered
   executed command =
       sending
-      (stateWith (doneTo (s .parameters) command (dataOf (i .content)))
+      (stateWith (doneTo (s .parameters) command (dataOf (i .content))) (s .fast)
       (some (lastOf (identifierOf (i .content)) (commandOf (i .content)) (length (replyBytes command)))))
       OUT (length (replyBytes command)) (buffersOf (onto (replyBytes command) (lent .store)) (onto (replyBytes command) (lent .out)))
 
-  -- 4. unknown code: NACK 2. 5. data not acceptable: NACK 3
+  -- 4. unknown code: NACK 2. 5. data not acceptable, or a speed that this reader has not: NACK 3
   abbrev pub judged : Acceptance → Answered
   judged (Accepted command) = executed command
   judged (Faulty fault) = nacked s (identifierOf (i .content)) (nackOf fault) lent
@@ -113,7 +119,7 @@ module _ (s : State) (i : Input) (lent : Buffers) where
   -- 3. the stored reply again; data is ignored, nothing changes
   abbrev pub recalled : Repeat → Answered
   recalled (Stored length) = sending s STORE length lent
-  recalled New = judged (acceptance (commandOf (i .content)) (dataOf (i .content)))
+  recalled New = judged (verdict (s .fast) (commandOf (i .content)) (dataOf (i .content)))
 
   -- of a FRAME, by its identifier, command and data part
   unfoldable pub framed : Answered

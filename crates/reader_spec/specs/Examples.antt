@@ -1,16 +1,18 @@
 -- Worked examples of the reader, as rows of one table. The claim is that each holds; `proofs/Laws/Examples` proves it. 01, Bench examples,
--- The point reader, Refusal numbers, rows 1, 2, 4 and 5, and Mistakes that come easily. Assumes nothing.
+-- The point reader, Refusal numbers, rows 1, 2, 4 and 5, and Mistakes that come easily; 02, L2. Assumes nothing.
 use Prim.Native.Nat.{ℕ}
 use mathlib.Core.Path.{_≡_}
+use mathlib.Core.Bool.{Bool, true, false}
 use mathlib.Core.List.{List, [], _∷_, _++_}
 use mathlib.Core.Option.{Option, none, some}
 use lib.ListN.{replicate}
 use Rattle.link_spec.specs.Events.{Name, FRAME, CHECK, SHORT}
 use Rattle.request_spec.specs.Replies.{Reply, ACK, NACK, DATA}
+use Rattle.reader_spec.specs.declared.reader.Parameters.{Parameters}
 use Rattle.reader_spec.specs.Limits.{room, leastFront, mostFront}
 use Rattle.reader_spec.specs.Parameters.{freshParameters}
-use Rattle.reader_spec.specs.State.{Last, lastOf, stateWith}
-use Rattle.reader_spec.specs.Sending.{BufferName, OUT, STORE, buffersOf, sent}
+use Rattle.reader_spec.specs.State.{Last, lastOf, State, stateWith, freshState}
+use Rattle.reader_spec.specs.Sending.{BufferName, OUT, STORE, Buffers, buffersOf, sent}
 use Rattle.reader_spec.specs.Answering.{inputOf, poweredOn, Answered, answered}
 use Rattle.reader_spec.specs.Sessions.{begun, replyDue}
 
@@ -24,6 +26,20 @@ pub record Seen : Type 0 where
 abbrev pub seen : Answered → Seen
 seen a = record { refusal = a .refusal; buffer = a .buffer; bytes = sent (a .buffer) (a .length) (a .left); last = a .state .last }
 
+-- what happens to a reader: it hears a frame with this content, or is powered on
+pub data Act : Type 0 where
+  frame : (content : List ℕ) → Act
+  power : Act
+
+-- what is seen of it: the buffer, the bytes to send, and the speed then
+pub record Shown : Type 0 where
+  pub buffer : BufferName
+  pub bytes : List ℕ
+  pub speed : ℕ
+
+abbrev pub shown : BufferName → List ℕ → ℕ → Shown
+shown buffer bytes speed = record { buffer = buffer; bytes = bytes; speed = speed }
+
 pub data Example : Type 0 where
   -- what is due from a fresh reader that hears this, with this antenna's answer; none where it has no answer
   means : (event : Name) (content antenna : List ℕ) (reply : Option Reply) → Example
@@ -32,8 +48,12 @@ pub data Example : Type 0 where
   -- one call on a reader that remembers this, lent so much store and out, all EE: what is seen of it
   answers : (last : Option Last) (event : Name) (content antenna : List ℕ) (store out : ℕ)
       (refusal : ℕ) (buffer : BufferName) (bytes : List ℕ) (left : Option Last) → Example
-  -- a reader that had this memory powered on, and the refusal
-  powers : (last : Option Last) (refusal : ℕ) (left : Option Last) → Example
+  -- a reader with this speed and memory powered on: the refusal, and the speed and memory then
+  powers : (fast : Bool) (speed : ℕ) (last : Option Last) (refusal after : ℕ) (left : Option Last) → Example
+  -- a call on a reader with this speed: the refusal
+  finds : (fast : Bool) (speed refusal : ℕ) → Example
+  -- all this happens to a fresh reader in turn
+  lives : (fast : Bool) (acts : List Act) (all : List Shown) → Example
   -- so many bytes of a buffer sent
   parts : (buffer : BufferName) (count : ℕ) (store out printed : List ℕ) → Example
   -- a limit is this number
@@ -46,21 +66,49 @@ device =
     ∷ 0x14 ∷ 0x15 ∷ 0x16 ∷ 0x17 ∷ 0x18 ∷ 0x19 ∷ 0x1A ∷ 0x1B ∷ 0x1C ∷ 0x1D ∷ 0x1E ∷ 0x1F ∷ 0x20 ∷ 0x21 ∷ 0x22 ∷ 0x23 ∷ 0x24 ∷ 0x25 ∷ 0x26 ∷ 0x27
     ∷ []
 
+-- parameters that are not those of a fresh reader
+abbrev parametersAt : ℕ → Parameters
+parametersAt speed = record { speed = speed; settings = replicate 4 5; cell = replicate 8 6 }
+
+abbrev buffers : ℕ → ℕ → Buffers
+buffers store out = buffersOf (replicate store 0xEE) (replicate out 0xEE)
+
+unfoldable pub allShown : State → Buffers → List Act → List Shown
+allShown s lent [] = []
+allShown s lent (frame content ∷ acts) =
+    let a = answered s (inputOf FRAME content device []) lent in
+    shown (a .buffer) (sent (a .buffer) (a .length) (a .left)) (a .state .parameters .speed) ∷ allShown (a .state) (a .left) acts
+allShown s lent (power ∷ acts) =
+    let p = poweredOn s in shown OUT [] (p .state .parameters .speed) ∷ allShown (p .state) lent acts
+
 abbrev pub Holds : Example → Type 0
-Holds (means event content antenna reply) = replyDue begun (inputOf event content device antenna) ≡ reply
-Holds (nacks code «data» nack) = replyDue begun (inputOf FRAME (0x00 ∷ code ∷ «data») device []) ≡ some (NACK nack)
+Holds (means event content antenna reply) = replyDue (begun true) (inputOf event content device antenna) ≡ reply
+Holds (nacks code «data» nack) = replyDue (begun true) (inputOf FRAME (0x00 ∷ code ∷ «data») device []) ≡ some (NACK nack)
 Holds (answers last event content antenna store out refusal buffer bytes left) =
-    seen (answered (stateWith freshParameters last) (inputOf event content device antenna)
-    (buffersOf (replicate store 0xEE) (replicate out 0xEE)))
+    seen (answered (stateWith freshParameters true last) (inputOf event content device antenna)
+    (buffers store out))
     ≡ record { refusal = refusal; buffer = buffer; bytes = bytes; last = left }
-Holds (powers last refusal left) =
-    poweredOn (stateWith freshParameters last) ≡ record { refusal = refusal; state = stateWith freshParameters left }
+Holds (powers fast speed last refusal after left) =
+    poweredOn (stateWith (parametersAt speed) fast last) ≡ record { refusal = refusal; state = stateWith (parametersAt after) fast left }
+Holds (finds fast speed refusal) =
+    answered (stateWith (parametersAt speed) fast none) (inputOf SHORT [] device []) (buffers room room) .refusal ≡ refusal
+Holds (lives fast acts all) = allShown (freshState fast) (buffers room room) acts ≡ all
 Holds (parts buffer count store out printed) = sent buffer count (buffersOf store out) ≡ printed
 Holds (counts limit number) = limit ≡ number
 
 -- the image of the header's reply with identifier and command 00
 abbrev headerImage : List ℕ
 headerImage = 0xFD ∷ 0x00 ∷ 0x00 ∷ device ++ (0x99 ∷ 0x0F ∷ 0xFE ∷ [])
+
+-- the request 07 that writes the speed 9, and the images of its ACK and its NACK 3
+abbrev writesNine : List ℕ
+writesNine = 0x07 ∷ 0x01 ∷ 0x02 ∷ 9 ∷ []
+
+abbrev acked : List ℕ
+acked = 0xFD ∷ 0x07 ∷ 0x2A ∷ 0x55 ∷ 0xA2 ∷ 0x91 ∷ 0xFE ∷ []
+
+abbrev nacked : List ℕ
+nacked = 0xFD ∷ 0x07 ∷ 0x2A ∷ 0x03 ∷ 0x11 ∷ 0xA6 ∷ 0xFE ∷ []
 
 abbrev pub examples : List Example
 examples =
@@ -108,8 +156,31 @@ examples =
     -- a remembered length of 131 is no state
     ∷ answers (some (lastOf 0x07 0x10 131)) FRAME (0x07 ∷ 0x10 ∷ []) [] 130 130 4 OUT [] (some (lastOf 0x07 0x10 131))
     -- power-on forgets the last command; a remembered length of 130 and of 131
-    ∷ powers (some (lastOf 1 2 130)) 0 none
-    ∷ powers (some (lastOf 1 2 131)) 4 (some (lastOf 1 2 131))
+    ∷ powers true 3 (some (lastOf 1 2 130)) 0 3 none
+    ∷ powers true 3 (some (lastOf 1 2 131)) 4 3 (some (lastOf 1 2 131))
+    -- at power-on 7 stays, and 8, 9 and 10 become 3; 2 and 11 are no speeds
+    ∷ powers true 7 none 0 7 none
+    ∷ powers true 8 none 0 3 none
+    ∷ powers true 9 none 0 3 none
+    ∷ powers true 10 none 0 3 none
+    ∷ powers true 11 none 4 11 none
+    ∷ powers false 2 none 4 2 none
+    -- a slow reader has 7, and not 8
+    ∷ powers false 7 none 0 7 none
+    ∷ powers false 8 none 4 8 none
+    ∷ finds true 2 4
+    ∷ finds true 9 0
+    ∷ finds true 11 4
+    ∷ finds false 7 0
+    ∷ finds false 8 4
+    ∷ finds false 9 4
+    ∷ finds false 10 4
+    -- a write of 9 is executed, and repeated; after a power-on the same request is executed again
+    ∷ lives true (frame writesNine ∷ frame writesNine ∷ power ∷ frame writesNine ∷ [])
+    (shown OUT acked 9 ∷ shown STORE acked 9 ∷ shown OUT [] 3 ∷ shown OUT acked 9 ∷ [])
+    -- a slow reader answers it with NACK 3, and does not remember it: the same identifier and command with 7 are executed
+    ∷ lives false (frame writesNine ∷ frame writesNine ∷ frame (0x07 ∷ 0x01 ∷ 0x02 ∷ 7 ∷ []) ∷ power ∷ [])
+    (shown OUT nacked 3 ∷ shown OUT nacked 3 ∷ shown OUT acked 7 ∷ shown OUT [] 7 ∷ [])
     -- some, all and too many bytes of a buffer
     ∷ parts OUT 2 (1 ∷ 2 ∷ 3 ∷ []) (4 ∷ 5 ∷ 6 ∷ []) (4 ∷ 5 ∷ [])
     ∷ parts STORE 3 (1 ∷ 2 ∷ 3 ∷ []) (4 ∷ 5 ∷ 6 ∷ []) (1 ∷ 2 ∷ 3 ∷ [])

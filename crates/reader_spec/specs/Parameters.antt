@@ -1,5 +1,5 @@
 -- The values of the three parameters in a reader's state.
--- 01, The point reader, 'State' and the table; 003, 'Параметры считывателя'. Assumes nothing.
+-- 01, The point reader, 'State' and the table; 02, L2; 003, 'Параметры считывателя'. Assumes nothing.
 use Prim.Native.Nat.{ℕ}
 use mathlib.Core.List.{List, [], _∷_}
 use lib.ListN.{getD, replicate, drop}
@@ -9,6 +9,7 @@ use Rattle.request_spec.specs.declared.command.Command.{Command}
 use Rattle.request_spec.specs.declared.command.Command.the-variants.{Header, Write, Read, Card}
 use Rattle.request_spec.specs.Parameters.{lengthOf}
 use Rattle.reader_spec.specs.declared.reader.Parameters.{Parameters}
+use Rattle.reader_spec.specs.Speeds.{poweredSpeed}
 
 -- a fresh reader has speed 3, zeros in the others
 abbrev pub freshParameters : Parameters
@@ -32,3 +33,7 @@ doneTo ps Header «data» = ps
 doneTo ps (Write p) «data» = withValue ps p (drop 1 «data»)
 doneTo ps (Read p) «data» = ps
 doneTo ps (Card card) «data» = ps
+
+-- what a power-on does to them: a speed of 8..10 becomes 3, and both others stay
+abbrev pub afterPower : Parameters → Parameters
+afterPower ps = record { speed = poweredSpeed (ps .speed); settings = ps .settings; cell = ps .cell }

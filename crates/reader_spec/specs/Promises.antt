@@ -1,5 +1,5 @@
--- What the theorems on sessions promise, demand 2 of a point reader: of calls that execute nothing, of a repeat, and of a parameter that
--- nobody writes. 01, The point reader, 'State' and steps 3 to 6. Assumes nothing.
+-- What the theorems on sessions promise, demand 2 of a point reader: of calls that execute nothing, of a repeat, of a power-on, and of a
+-- parameter that nobody writes. 01, The point reader, 'State' and steps 3 to 6; 02, L2. Assumes nothing.
 use Prim.Native.Nat.{ℕ}
 use mathlib.Core.Path.{_≡_}
 use mathlib.Core.Bool.{Bool, true, false}
@@ -10,7 +10,7 @@ use Rattle.reader_spec.specs.declared.reader.Reader.{Reader}
 use Rattle.reader_spec.specs.State.{State, stateOf}
 use Rattle.reader_spec.specs.Sending.{Buffers}
 use Rattle.reader_spec.specs.Answering.{Answered}
-use Rattle.reader_spec.specs.Sessions.{History, remembers, Call, bytesSent, ReaderSession}
+use Rattle.reader_spec.specs.Sessions.{History, remembers, Call, bytesSent, ReaderSession, leftOf}
 
 -- after calls that execute nothing the reader's state is the same, what is remembered of the store too if nobody else wrote to it, and the
 -- same is told
@@ -37,7 +37,7 @@ pub record Repeated {a b : Bool} {h k : History} {s t : Reader} {held kept : Lis
   pub buffers : again .left ≡ again .lent
   pub sends : bytesSent again ≡ bytesSent first
 
--- after calls and power-ons that execute no write of a parameter its value is the same
-pub record KeptValue (alone : Bool) (p : Parameter) (h : History) (t : Reader) (kept : List ℕ) (k : History) : Type 0 where
+-- after calls and power-ons that execute no write of a parameter its value is the same, but for a speed above 7 after a power-on
+pub record KeptValue (alone : Bool) (p : Parameter) (h : History) (t : Reader) (kept : List ℕ) (k : History) (restarted : Bool) : Type 0 where
   pub session : ReaderSession alone t kept k
-  pub value : k .value p ≡ h .value p
+  pub value : k .value p ≡ leftOf restarted p (h .value p)

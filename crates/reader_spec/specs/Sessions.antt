@@ -1,6 +1,6 @@
 -- A reader over many calls. What it has to remember and to answer is told from the calls' inputs, and from whether a call was refused; a
 -- session hands the reader on from call to call, and no definition here looks into its record. Demand 2, of repeats: a request that repeats the
--- identifier and command of the last one executed since power-on gets the stored reply and executes nothing. 01, The point reader.
+-- identifier and command of the last one executed since power-on gets the stored reply and executes nothing. 01, The point reader; 02, L2.
 -- Assumes nothing.
 use Prim.Native.Nat.{ℕ}
 use mathlib.Core.Path.{_≡_}
@@ -8,7 +8,7 @@ use mathlib.Core.Bool.{Bool, true, false, cond, _&&_, not}
 use mathlib.Core.List.{List, [], _∷_}
 use mathlib.Core.Option.{Option, none, some, Option·map}
 use lib.Dec.{eqb}
-use lib.ListN.{length, drop, take}
+use lib.ListN.{length, getD, drop, take}
 use Rattle.ground.specs.Refusals.{number}
 use Rattle.request_spec.specs.declared.parameter.Parameter.{Parameter}
 use Rattle.request_spec.specs.declared.parameter.Parameter.the-variants.{Speed, Settings, Cell}
@@ -25,6 +25,7 @@ use Rattle.reader_spec.specs.declared.reader.Asking.the-variants.{Nothin
 use Rattle.reader_spec.specs.declared.reader.Reader.{Reader}
 use Rattle.reader_spec.specs.declared.reader.Powered.{Powered}
 use Rattle.reader_spec.specs.declared.reader.Answer.{Answer}
+use Rattle.reader_spec.specs.Speeds.{isAbove, servedAs}
 use Rattle.reader_spec.specs.State.{stateOf, freshState}
 use Rattle.reader_spec.specs.Asking.{asking}
 use Rattle.reader_spec.specs.Replies.{replyImage, replyTo}
@@ -43,9 +44,11 @@ pub record Execution : Type 0 where
 abbrev pub imageOf : Execution → List ℕ
 imageOf e = replyImage (e .identifier) (e .code) (e .reply)
 
--- the value last written to each parameter, and the last command executed since power-on
+-- the value that each parameter has by the writes and power-ons so far, whether the reader was made fast, and the last command executed
+-- since power-on
 pub record History : Type 0 where
   pub value : Parameter → List ℕ
+  pub fast : Bool
   pub last : Option Execution
 
 -- speed 3, zeros in the others
@@ -54,13 +57,19 @@ freshValues Speed = 3 ∷ []
 freshValues Settings = 0 ∷ 0 ∷ 0 ∷ 0 ∷ []
 freshValues Cell = 0 ∷ 0 ∷ 0 ∷ 0 ∷ 0 ∷ 0 ∷ 0 ∷ 0 ∷ []
 
--- and no last command
-abbrev pub begun : History
-begun = record { value = freshValues; last = none }
+-- and no last command, of a reader that is made fast or slow
+abbrev pub begun : Bool → History
+begun fast = record { value = freshValues; fast = fast; last = none }
 
--- a power-on forgets the last command and keeps all three parameters
+-- what a power-on leaves of a value: a speed of 8, 9 or 10 becomes 3, and all others stay
+abbrev pub poweredValue : Parameter → List ℕ → List ℕ
+poweredValue Speed value = cond (isAbove (getD value 0 0)) (3 ∷ []) value
+poweredValue Settings value = value
+poweredValue Cell value = value
+
+-- and it forgets the last command
 abbrev pub forgetting : History → History
-forgetting h = record { value = h .value; last = none }
+forgetting h = record { value = λ (p : Parameter). poweredValue p (h .value p); fast = h .fast; last = none }
 
 -- unless it was refused
 abbrev pub poweredBy : History → ℕ → History
@@ -92,11 +101,15 @@ abbrev pub bytesOf : List ℕ → Option Reply → List ℕ
 bytesOf content none = []
 bytesOf content (some reply) = replyImage (identifierOf content) (commandOf content) reply
 
--- what the code and data of an input ask for
+-- what the code and data of an input may be
 abbrev pub asksFor : Input → Acceptance
 asksFor i = acceptance (commandOf (i .content)) (dataOf (i .content))
 
 module _ (h : History) (i : Input) where
+  -- and what this reader makes of them
+  abbrev pub verdictOn : Acceptance
+  verdictOn = servedAs (h .fast) (dataOf (i .content)) (asksFor i)
+
   -- the input's identifier and command are those of the last executed command
   abbrev pub repeatsLast : Bool
   repeatsLast = repeats (h .last) (identifierOf (i .content)) (commandOf (i .content))
@@ -107,6 +120,7 @@ module _ (h : History) (i : Input) where
   judgedHistory (Accepted command) =
       record {
         value = valuesAfter (h .value) command (dataOf (i .content));
+        fast = h .fast;
         last = some
             (record {
               identifier = identifierOf (i .content);
@@ -117,7 +131,7 @@ module _ (h : History) (i : Input) where
 
   -- what is told after a call that was not refused
   abbrev pub nextHistoryAs : Asking → History
-  nextHistoryAs asked = cond (isFrame asked) (cond repeatsLast h (judgedHistory (asksFor i))) h
+  nextHistoryAs asked = cond (isFrame asked) (cond repeatsLast h (judgedHistory verdictOn)) h
 
   abbrev pub nextHistory : History
   nextHistory = nextHistoryAs (asking (i .event))
@@ -135,7 +149,7 @@ module _ (h : History) (i : Input) where
   abbrev pub dueAs : Asking → Option Reply
   dueAs Nothing = none
   dueAs Wrong = some (NACK wrongCheck)
-  dueAs Right = cond repeatsLast (Option·map (λ (e : Execution). e .reply) (h .last)) (some (judgedReply (asksFor i)))
+  dueAs Right = cond repeatsLast (Option·map (λ (e : Execution). e .reply) (h .last)) (some (judgedReply verdictOn))
 
   abbrev pub replyDue : Option Reply
   replyDue = dueAs (asking (i .event))
@@ -147,9 +161,9 @@ module _ (h : History) (i : Input) where
   abbrev pub isRepeat : Bool
   isRepeat = isFrame (asking (i .event)) && repeatsLast
 
-  -- a FRAME that is executed, unless the call refuses: no repeat, and accepted
+  -- a FRAME that is executed, unless the call refuses: no repeat, accepted, and done by this reader
   abbrev pub isExecutedAs : Asking → Bool
-  isExecutedAs asked = isFrame asked && (not repeatsLast && isAccepted (asksFor i))
+  isExecutedAs asked = isFrame asked && (not repeatsLast && isAccepted verdictOn)
 
   abbrev pub isExecuted : Bool
   isExecuted = isExecutedAs (asking (i .event))
@@ -190,10 +204,10 @@ module _ {alone : Bool} {h : History} {s : Reader} {held : List ℕ} (c : Call a
   abbrev pub historyAfter : History
   historyAfter = nextHistoryBy h (c .input) (number (c .answer .refusal))
 
--- Calls and power-ons in a row from a fresh reader, each with the reader that the last one answered; what the store held as the last call
--- returned; and what they tell.
+-- Calls and power-ons in a row from a fresh reader, fast or slow, each with the reader that the last one answered; what the store held as the
+-- last call returned; and what they tell.
 pub data ReaderSession (alone : Bool) : Reader → List ℕ → History → Type 0 where
-  begins : (r : Reader) (store : List ℕ) → stateOf r ≡ freshState → ReaderSession alone r store begun
+  begins : (r : Reader) (store : List ℕ) (fast : Bool) → stateOf r ≡ freshState fast → ReaderSession alone r store (begun fast)
   powered : {s : Reader} {held : List ℕ} {h : History} → ReaderSession alone s held h
       → (r : Powered)
       → powering r ≡ poweredOn (stateOf s)
@@ -210,14 +224,19 @@ pub data Idle (alone : Bool) (h : History) (s : Reader) (held : List ℕ) : Read
       → (Done c → isExecuted h (c .input) ≡ false)
       → Idle alone h s held (c .answer .reader) (c .left .store)
 
--- calls and power-ons in a row that execute no write of this parameter, from one reader, store and history to another
-pub data Unwritten (alone : Bool) (p : Parameter) (s : Reader) (held : List ℕ) (h : History) : Reader → List ℕ → History → Type 0 where
-  still : Unwritten alone p s held h s held h
-  power : {t : Reader} {kept : List ℕ} {k : History} → Unwritten alone p s held h t kept k
+-- calls and power-ons in a row that execute no write of this parameter, from one reader, store and history to another; the last of these says
+-- whether there was a power-on among them
+pub data Unwritten (alone : Bool) (p : Parameter) (s : Reader) (held : List ℕ) (h : History) : Reader → List ℕ → History → Bool → Type 0 where
+  still : Unwritten alone p s held h s held h false
+  power : {t : Reader} {kept : List ℕ} {k : History} {restarted : Bool} → Unwritten alone p s held h t kept k restarted
       → (r : Powered)
       → powering r ≡ poweredOn (stateOf t)
-      → Unwritten alone p s held h (r .reader) kept (poweredBy k (number (r .refusal)))
-  other : {t : Reader} {kept : List ℕ} {k : History} → Unwritten alone p s held h t kept k
+      → Unwritten alone p s held h (r .reader) kept (poweredBy k (number (r .refusal))) true
+  other : {t : Reader} {kept : List ℕ} {k : History} {restarted : Bool} → Unwritten alone p s held h t kept k restarted
       → (c : Call alone k t kept)
       → (Done c → isExecuted k (c .input) ≡ true → asksFor (c .input) ≡ Accepted (Write p) → ⊥)
-      → Unwritten alone p s held h (c .answer .reader) (c .left .store) (historyAfter c)
+      → Unwritten alone p s held h (c .answer .reader) (c .left .store) (historyAfter c) restarted
+
+-- what is left of a value then
+abbrev pub leftOf : Bool → Parameter → List ℕ → List ℕ
+leftOf restarted p value = cond restarted (poweredValue p value) value

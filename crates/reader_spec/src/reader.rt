@@ -20,9 +20,11 @@ pub enum Memory {
     },
 }
 
-// A reader between two calls: its three parameters, and the memory of the last executed command.
+// A reader between two calls: its three parameters, whether its model has the speeds above 115200 baud, and the memory of the last
+// executed command.
 pub struct Reader {
     pub parameters: Parameters,
+    pub fast: bool,
     pub memory: Memory,
 }
 

@@ -45,6 +45,7 @@ fn op(number: u8) -> Option<Op> {
         0x23 => point::buffers,
         0x24 => point::request,
         0x25 => point::reply,
+        0x26 => point::fresh_reader,
         0x27 => point::put_header,
         _ => return None,
     };
@@ -77,7 +78,7 @@ pub fn rows(script: &[u8]) -> String {
 }
 
 /// The payload behind an op byte, and what follows it.
-fn payload(behind: &[u8]) -> Option<(&[u8], &[u8])> {
+pub fn payload(behind: &[u8]) -> Option<(&[u8], &[u8])> {
     let (length, behind) = number(behind)?;
     behind.split_at_checked(length)
 }
@@ -99,7 +100,7 @@ impl World {
         World {
             point_receiver: Receiver::fresh(Station::Point),
             addressed_receiver: Receiver::fresh(Station::Addressed(MASTER)),
-            reader: Reader::fresh(),
+            reader: Reader::fresh(true),
             header: std::array::from_fn(|place| place as u8),
             store: [UNTOUCHED; BUFFER],
             out: [UNTOUCHED; BUFFER],
@@ -167,5 +168,28 @@ mod tests {
         let put = [&[0x27, 41, 0], &[0xFE; 41][..], &ask].concat();
         let sent = format!("27\n20 0 out 87 FD.00.00{}", ".FF.01".repeat(40));
         assert!(rows(&put).starts_with(&sent));
+    }
+
+    /// The row of an op whose fields are the reader's record alone or behind a refusal number.
+    fn row(op: &str, speed: u8, kind: &str) -> String {
+        format!("{op} {speed:02X} 00.00.00.00 00.00.00.00.00.00.00.00 - - {kind}\n")
+    }
+
+    #[test]
+    fn a_reader_is_fresh_and_fast_at_first_and_made_slow_at_0_alone() {
+        assert_eq!(rows(&[0x21, 0, 0]), row("21 0", 3, "fast") + "end 1\n");
+        for (byte, kind) in [(0, "slow"), (1, "fast"), (0x80, "fast"), (0xFF, "fast")] {
+            let made = row("26", 3, kind) + &row("21 0", 3, kind) + "end 2\n";
+            assert_eq!(rows(&[0x26, 1, 0, byte, 0x21, 0, 0]), made);
+        }
+    }
+
+    #[test]
+    fn a_record_is_put_slow_at_0_alone() {
+        let put = |fast| [&[0x22, 19, 0, 8], &[0; 17][..], &[fast, 0x21, 0, 0]].concat();
+        let rows_of = |row: String| format!("22\n{row}end 2\n");
+        assert_eq!(rows(&put(0)), rows_of(row("21 4", 8, "slow")));
+        assert_eq!(rows(&put(1)), rows_of(row("21 0", 3, "fast")));
+        assert_eq!(rows(&put(0xFF)), rows_of(row("21 0", 3, "fast")));
     }
 }

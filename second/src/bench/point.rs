@@ -60,7 +60,11 @@ fn record(reader: &Reader) -> String {
     };
     let parameter_05 = hex::dotted(&reader.parameter_05);
     let parameter_80 = hex::dotted(&reader.parameter_80);
-    format!("{:02X} {parameter_05} {parameter_80} {last}", reader.speed)
+    let kind = if reader.fast { "fast" } else { "slow" };
+    format!(
+        "{:02X} {parameter_05} {parameter_80} {last} {kind}",
+        reader.speed
+    )
 }
 
 pub fn power_on(world: &mut World, _: &[u8]) -> Option<String> {
@@ -72,7 +76,7 @@ pub fn power_on(world: &mut World, _: &[u8]) -> Option<String> {
     ))
 }
 
-/// Any `has` but 0 is a last command.
+/// Any `has` but 0 is a last command, any `fast` but 0 a fast reader.
 pub fn put_reader(world: &mut World, payload: &[u8]) -> Option<String> {
     let (&speed, rest) = payload.split_first()?;
     let (parameter_05, rest) = rest.split_first_chunk()?;
@@ -80,7 +84,8 @@ pub fn put_reader(world: &mut World, payload: &[u8]) -> Option<String> {
     let [has, identifier, command, rest @ ..] = rest else {
         return None;
     };
-    let (length, _) = number(rest)?;
+    let (length, rest) = number(rest)?;
+    let fast = *rest.first()?;
     let last = Last {
         identifier: *identifier,
         command: *command,
@@ -91,8 +96,16 @@ pub fn put_reader(world: &mut World, payload: &[u8]) -> Option<String> {
         parameter_05: *parameter_05,
         parameter_80: *parameter_80,
         last: (*has != 0).then_some(last),
+        fast: fast != 0,
     };
     Some(String::new())
+}
+
+/// Any `fast` but 0 is a fast reader.
+pub fn fresh_reader(world: &mut World, payload: &[u8]) -> Option<String> {
+    let fast = *payload.first()?;
+    world.reader = Reader::fresh(fast != 0);
+    Some(record(&world.reader))
 }
 
 pub fn put_header(world: &mut World, payload: &[u8]) -> Option<String> {

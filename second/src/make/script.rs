@@ -8,7 +8,7 @@ use super::prng::Prng;
 use super::wire;
 
 /// Each op with the least payload it takes (BENCH.md, 'Ops').
-const OPS: [(u8, usize); 16] = [
+const OPS: [(u8, usize); 17] = [
     (0x01, 4),
     (0x02, 5),
     (0x03, 0),
@@ -20,10 +20,11 @@ const OPS: [(u8, usize); 16] = [
     (0x13, 6),
     (0x20, 6),
     (0x21, 0),
-    (0x22, 18),
+    (0x22, 19),
     (0x23, 0),
     (0x24, 4),
     (0x25, 3),
+    (0x26, 1),
     (0x27, 40),
 ];
 const MOST_PAYLOAD: usize = u16::MAX as usize;
@@ -78,7 +79,7 @@ fn long(prng: &mut Prng) -> usize {
 }
 
 fn scene(script: &mut Script) {
-    match script.prng.below(20) {
+    match script.prng.below(22) {
         0..=1 => link::writers(script),
         2 => link::checks(script),
         3..=4 => link::point_pieces(script),
@@ -89,7 +90,8 @@ fn scene(script: &mut Script) {
         14..=15 => reader::repeats(script),
         16 => reader::any_call(script),
         17 => reader::put_record(script),
-        18 => short(script),
+        18..=19 => reader::speeds(script),
+        20 => short(script),
         _ => anything(script),
     }
 }
@@ -138,9 +140,9 @@ fn ending(script: &mut Script) {
         }
         10 => script
             .bytes
-            .push(script.prng.pick(&[0x00, 0x06, 0x14, 0x26, 0x28])),
+            .push(script.prng.pick(&[0x00, 0x06, 0x14, 0x28, 0x2F])),
         _ => {
-            let unknown = script.prng.pick(&[0x00, 0x0F, 0x1F, 0x26, 0x28, 0xFF]);
+            let unknown = script.prng.pick(&[0x00, 0x0F, 0x1F, 0x28, 0x2F, 0xFF]);
             script.bytes.extend([unknown, 0x00, 0x00, op]);
         }
     }

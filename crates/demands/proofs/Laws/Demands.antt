@@ -1,6 +1,6 @@
 -- The three demands hold.
 -- Assumes nothing.
-use mathlib.Core.Path.{sym, ap, _∙_}
+use mathlib.Core.Path.{sym}
 use Rattle.ground.proofs.Laws.Laying.{put-refused, put-placed, put-keeps}
 use Rattle.wire_spec.proofs.Laws.Unstuffing.{unstuffing-stuffing}
 use Rattle.wire_spec.proofs.Laws.Writing.{length-refused, length-answered, written-short, written-whole, written-keeps}
@@ -19,11 +19,10 @@ use Rattle.request_spec.proofs.Laws.Requesting as requesting
 use Rattle.request_spec.proofs.Laws.Requesting.{request-keeps, request-heard}
 use Rattle.request_spec.proofs.Laws.Reading as reading
 use Rattle.reader_spec.specs.State.{freshState}
-use Rattle.reader_spec.specs.Answering.{PoweredOn}
 use Rattle.reader_spec.proofs.Laws.State.{readerWith}
 use Rattle.reader_spec.proofs.Laws.Answering as answering
-use Rattle.reader_spec.proofs.Laws.Answering.{answered-keeps, power-by-table, power-only, powered-keeps, powers-on}
-use Rattle.reader_spec.proofs.Laws.Sessions.{session-good, session-sends, repeat-stored, fresh-session}
+use Rattle.reader_spec.proofs.Laws.Answering.{answered-keeps, power-by-table, power-only, powered-keeps}
+use Rattle.reader_spec.proofs.Laws.Sessions.{power-fine, session-sends, repeat-stored, fresh-session}
 use Rattle.reader_spec.proofs.Laws.Some.{call-some, call-fine}
 use Rattle.reader_spec.proofs.Laws.Idle.{call-keeps}
 use Rattle.reader_spec.proofs.Laws.Repeats.{executed-repeats}
@@ -36,7 +35,7 @@ use Rattle.demands.specs.Refusing.{RefusesByTable, RefusedChangesNothing
 use Rattle.demands.specs.Demands.{Demand1, Demand2, Demand3}
 use Rattle.demands.proofs.Laws.Refusing.{put-stops, length-counts, image-counts, point-counts, addressed-counts, request-counts, new-refused, received-silent, received-unrefused, reply-meaningless, listed-counts, reported-zeros}
 use Rattle.demands.proofs.Laws.Exchange.{exchange, nack-exchange}
-use Rattle.demands.proofs.Laws.Requests.{request-executed, code-nacked, data-nacked}
+use Rattle.demands.proofs.Laws.Requests.{request-executed, speed-nacked, code-nacked, data-nacked}
 use Rattle.demands.proofs.Laws.Going.{receiver-goes-on, tape-goes-on}
 
 refuses-by-table : RefusesByTable
@@ -108,15 +107,16 @@ demand-2 =
         sends = session-sends se c;
         recalls = repeat-stored se c;
         fine = call-fine se c;
-        executes = λ identifier code «data» asks row. request-executed se c identifier code «data» asks row;
+        executes = λ identifier code «data» asks row few. request-executed se c identifier code «data» asks row few;
+        nacksSpeed = λ identifier code «data» asks slow write. speed-nacked se c identifier code «data» asks slow write;
         nacksCode = λ identifier code «data» asks none. code-nacked se c identifier code «data» asks none;
         nacksData = λ identifier code «data» other asks row none. data-nacked se c identifier code «data» asks other row none;
         keeps = call-keeps se c;
         read = exchange se c;
       };
-      begins = λ alone store. (readerWith freshState, fresh-session store);
+      begins = λ alone fast store. (readerWith (freshState fast), fresh-session store fast);
       goesOn = call-some;
-      powers = λ {s = s} se r says. ap (λ (p : PoweredOn). p .refusal) says ∙ ap (λ (p : PoweredOn). p .refusal) (powers-on _ (session-good se));
+      powers = power-fine;
       nackRead = nack-exchange;
       values = written-read;
       repeats = λ se first done does idle again. executed-repeats se first done does idle again;

@@ -1,4 +1,5 @@
--- A request of the paper's table is executed; a code that the table does not have is answered NACK 2, data that it does not have NACK 3.
+-- A request of the paper's table is executed, unless it writes a speed that the reader has not; a code that the table does not have is answered
+-- NACK 2, and data that it does not have NACK 3.
 -- Assumes nothing.
 use mathlib.Core.Path.{_≡_, refl, sym, ap, _∙_}
 use mathlib.Core.Bool.{Bool, true, false, true≢false}
@@ -12,15 +13,17 @@ use Rattle.request_spec.specs.declared.command.Acceptance.{Acceptance}
 use Rattle.request_spec.specs.declared.command.Acceptance.the-variants.{Accepted, Faulty}
 use Rattle.request_spec.specs.declared.command.Fault.{Fault}
 use Rattle.request_spec.specs.declared.command.Fault.the-variants.{UnknownCode, BadData}
-use Rattle.request_spec.specs.Acceptance.{isKnown, acceptance, nackOf, Accepts}
+use Rattle.request_spec.specs.Acceptance.{isKnown, acceptance, isAccepted, nackOf, Accepts}
 use Rattle.request_spec.specs.Replies.{identifierOf, commandOf, dataOf}
 use Rattle.request_spec.proofs.Laws.Acceptance.{unknown-only, unknown-code, accepts, accepted, row-known, HasRow, known-row, accepted-short}
 use Rattle.reader_spec.specs.declared.reader.Asking.the-variants.{Right}
 use Rattle.reader_spec.specs.declared.reader.Reader.{Reader}
+use Rattle.reader_spec.specs.Speeds.{servedAs, verdict, FastWrite}
 use Rattle.reader_spec.specs.State.{stateOf}
 use Rattle.reader_spec.specs.Asking.{asking}
 use Rattle.reader_spec.specs.Answering.{Answered, answerSays, isFront, judged}
-use Rattle.reader_spec.specs.Sessions.{History, repeats, repeatsLast, asksFor, Call, Done, ReaderSession}
+use Rattle.reader_spec.specs.Sessions.{History, repeats, repeatsLast, asksFor, verdictOn, isExecuted, Call, Done, ReaderSession}
+use Rattle.reader_spec.proofs.Laws.Speeds.{row-done, fast-row, fast-faulty}
 use Rattle.reader_spec.proofs.Laws.Answering.{front-is, does-steps, steps-fine}
 use Rattle.reader_spec.proofs.Laws.Replies.{executed-answer}
 use Rattle.reader_spec.proofs.Laws.Sessions.{session-good, session-on, session-replies, call-framed}
@@ -32,6 +35,9 @@ module _ {alone : Bool} {s : Reader} {held : List ℕ} {h : History} (se : Reade
   -- what it is asked for, and that it is new, told from its input
   pub asked-is : asksFor (c .input) ≡ acceptance code «data»
   asked-is = ap (λ (l : List ℕ). acceptance (commandOf l) (dataOf l)) (asks .content)
+
+  verdict-is : verdictOn h (c .input) ≡ verdict (h .fast) code «data»
+  verdict-is = ap (λ (l : List ℕ). verdict (h .fast) (commandOf l) (dataOf l)) (asks .content)
 
   new : repeatsLast h (c .input) ≡ false
   new = ap (λ (l : List ℕ). repeats (h .last) (identifierOf l) (commandOf l)) (asks .content) ∙ asks .new
@@ -47,40 +53,51 @@ module _ {alone : Bool} {s : Reader} {held : List ℕ} {h : History} (se : Reade
       ∙ ap (λ (a : Answered). a .refusal) (does-steps (stateOf s) (c .input) (c .lent) (session-good se) (asks .well) (rw frame front))
       ∙ steps-fine (stateOf s) (c .input) (c .lent) (asking (c .input .event))
 
-  judges : {k : Acceptance} → acceptance code «data» ≡ k → length «data» ≤ mostData
+  executes : {k : Acceptance} → verdict (h .fast) code «data» ≡ k → isExecuted h (c .input) ≡ isAccepted k
+  executes asked = rw (frame, new, verdict-is ∙ asked) refl
+
+  judges : {k : Acceptance} → verdict (h .fast) code «data» ≡ k → length «data» ≤ mostData
       → answerSays (c .answer) (c .left) ≡ judged (stateOf s) (c .input) (c .lent) k
   judges {k} asked short =
       let framed = call-framed se c (done short) frame in
-      rw (new, asked-is ∙ asked) at framed
+      rw (new, verdict-is ∙ asked) at framed
 
-  -- a request of the paper's table is executed by a reader for which it repeats nothing, so by a fresh one
-  pub request-executed : {command : Command} → Accepts code «data» command → RequestExecuted c command
-  request-executed {command} row =
+  -- a request of the paper's table is executed by a reader for which it repeats nothing, so by a fresh one, if it has the speed that is written
+  pub request-executed : {command : Command} → Accepts code «data» command → (h .fast ≡ false → FastWrite code «data» → ⊥)
+      → RequestExecuted c command
+  request-executed {command} row few =
       let fine = done (accepted-short row) in
-      let asked = accepted row in
+      let does = row-done (h .fast) row few in
       record {
-        asked = asked-is ∙ asked;
+        asked = asked-is ∙ accepted row;
         done = fine;
-        sends = session-replies se c fine (asks .event) new (asked-is ∙ asked);
+        does = executes does;
+        sends = session-replies se c fine (asks .event) new (verdict-is ∙ does);
         reply = executed-answer (h .value) command (c .input .header) (c .input .antenna);
-        goesOn = rw (frame, new, asked-is ∙ asked) at (session-on se c fine);
+        goesOn = rw (frame, new, verdict-is ∙ does) at (session-on se c fine);
       }
 
-  faulty-nacked : (fault : Fault) → acceptance code «data» ≡ Faulty fault → length «data» ≤ mostData → RequestNacked c (nackOf fault)
+  faulty-nacked : (fault : Fault) → verdict (h .fast) code «data» ≡ Faulty fault → length «data» ≤ mostData → RequestNacked c (nackOf fault)
   faulty-nacked fault asked short =
       let fine = done short in
       let judged = judges asked short in
       record {
         done = fine;
-        sends = session-replies se c fine (asks .event) new (asked-is ∙ asked);
+        idle = executes asked;
+        sends = session-replies se c fine (asks .event) new (verdict-is ∙ asked);
         unchanged = record { state = ap (λ (a : Answered). a .state) judged; store = ap (λ (a : Answered). a .left .store) judged };
       }
+
+  -- else, by a slow reader, it is answered NACK 3
+  pub speed-nacked : h .fast ≡ false → FastWrite code «data» → RequestNacked c 3
+  speed-nacked slow write =
+      faulty-nacked BadData (ap (λ (fast : Bool). verdict fast code «data») slow ∙ fast-faulty write) (accepted-short (fast-row write))
 
   -- any other, if a frame can carry it, is answered NACK 2 where no row has its code
   pub code-nacked : ((other : List ℕ) (command : Command) → Accepts code other command → ⊥) → length «data» ≤ mostData → RequestNacked c 2
   code-nacked none =
       faulty-nacked UnknownCode
-      (unknown-code code «data» (by-test (λ (t : Bool). t ≡ false) (isKnown code) (λ known. absurd (no-row (known-row code known))) (λ _. refl)))
+      (ap (servedAs (h .fast) «data») (unknown-code code «data» (by-test (λ (t : Bool). t ≡ false) (isKnown code) (λ known. absurd (no-row (known-row code known))) (λ _. refl))))
     where
       no-row : HasRow code → ⊥
       no-row (other, command, row) = none other command row
@@ -89,7 +106,7 @@ module _ {alone : Bool} {s : Reader} {held : List ℕ} {h : History} (se : Reade
   pub data-nacked : (other : List ℕ) {some : Command} → Accepts code other some → ((command : Command) → Accepts code «data» command → ⊥)
       → length «data» ≤ mostData
       → RequestNacked c 3
-  data-nacked other row none = faulty-nacked BadData (bad-data (acceptance code «data») refl)
+  data-nacked other row none = faulty-nacked BadData (ap (servedAs (h .fast) «data») (bad-data (acceptance code «data») refl))
     where
       bad-data : (k : Acceptance) → acceptance code «data» ≡ k → acceptance code «data» ≡ Faulty BadData
       bad-data (Accepted command) is = absurd (none command (accepts code «data» is))

@@ -14,7 +14,6 @@ use Rattle.wire_spec.specs.Writing.{After}
 use Rattle.link_spec.specs.Events.{FRAME}
 use Rattle.request_spec.specs.declared.command.Command.{Command}
 use Rattle.request_spec.specs.declared.command.Acceptance.{Acceptance}
-use Rattle.request_spec.specs.Acceptance.{acceptance}
 use Rattle.request_spec.specs.Replies.{identifierOf, commandOf, dataOf}
 use Rattle.reader_spec.specs.declared.reader.Buffer.the-variants.{Out}
 use Rattle.reader_spec.specs.declared.reader.Memory.the-variants.{Last}
@@ -23,6 +22,7 @@ use Rattle.reader_spec.specs.declared.reader.Parameters.{Parameters}
 use Rattle.reader_spec.specs.declared.reader.Reader.{Reader}
 use Rattle.reader_spec.specs.declared.reader.Answer.{Answer}
 use Rattle.reader_spec.specs.Limits.{leastFront}
+use Rattle.reader_spec.specs.Speeds.{verdict}
 use Rattle.reader_spec.specs.Parameters.{valueOf, doneTo}
 use Rattle.reader_spec.specs.Replies.{replyContent, replyTo}
 use Rattle.reader_spec.specs.State.{State, stateWith, stateOf, lastOf, find}
@@ -45,7 +45,7 @@ put-answers {out′ = out′} reader content store out told put =
 -- a reply put to out, copied to the store and remembered
 module _ (reader : Reader) (identifier code : ℕ) («data» header antenna store out : List ℕ) (command : Command) where
   pub execute-answers : {r : Answer} {ps : Parameters} {n : ℕ} {store′ out′ : List ℕ}
-      → r ≡ answerOf None (record { parameters = ps; memory = Last identifier code n }) Out n
+      → r ≡ answerOf None (record { parameters = ps; fast = reader .fast; memory = Last identifier code n }) Out n
       → ps ≡ doneTo (reader .parameters) command «data»
       → store′ ≡ onto (take n out′) store
       → Fills n out′ (replyContent identifier code (replyTo (valueOf (reader .parameters)) command header antenna)) out
@@ -55,15 +55,15 @@ module _ (reader : Reader) (identifier code : ℕ) («data» header antenna stor
       let content = replyContent identifier code (replyTo (valueOf (reader .parameters)) command header antenna) in
       let ps′ = doneTo (reader .parameters) command «data» in
       ap (λ (r : Answer). answerSays r (buffersOf store′ out′)) told
-      ∙ ap (λ (qs : Parameters). sending (stateWith qs (some (lastOf identifier code n))) OUT n (buffersOf store′ out′)) done
-      ∙ ap (λ (l : List ℕ). sending (stateWith ps′ (some (lastOf identifier code n))) OUT n (buffersOf l out′))
+      ∙ ap (λ (qs : Parameters). sending (stateWith qs (reader .fast) (some (lastOf identifier code n))) OUT n (buffersOf store′ out′)) done
+      ∙ ap (λ (l : List ℕ). sending (stateWith ps′ (reader .fast) (some (lastOf identifier code n))) OUT n (buffersOf l out′))
       (kept ∙ ap (λ (l : List ℕ). onto l store) (puts-front content out put))
-      ∙ ap (λ (a : After). sending (stateWith ps′ (some (lastOf identifier code (a .tally .count)))) OUT (a .tally .count)
+      ∙ ap (λ (a : After). sending (stateWith ps′ (reader .fast) (some (lastOf identifier code (a .tally .count)))) OUT (a .tally .count)
       (buffersOf (onto (image content) store) (a .out))) (put .0)
 
--- a frame that repeats nothing, by its acceptance: steps 4 to 6
+-- a frame that repeats nothing, by what this reader makes of it: steps 4 to 6
 pub framed-new : {a : Acceptance} (s : State) (i : Input) (lent : Buffers) → find (s .last) (identifierOf (i .content)) (commandOf (i .content)) ≡ New
-    → acceptance (commandOf (i .content)) (dataOf (i .content)) ≡ a
+    → verdict (s .fast) (commandOf (i .content)) (dataOf (i .content)) ≡ a
     → framed s i lent ≡ judged s i lent a
 framed-new s i lent found asked = framed-by s i lent found ∙ ap (judged s i lent) asked
 

@@ -1,7 +1,7 @@
 -- A reader's state agrees with what its calls told, and each call keeps it so and sends what is due.
 -- Assumes nothing.
 use mathlib.Core.Path.{_≡_, refl, sym, ap, subst, subst⁻¹, _∙_}
-use mathlib.Core.Bool.{Bool, true, false, cond, _&&_, true≢false, and-eq-true-iff}
+use mathlib.Core.Bool.{Bool, true, false, cond, _&&_, or-true, true≢false, and-eq-true-iff}
 use mathlib.Core.List.{List, []}
 use mathlib.Core.Option.{Option, none, some, Option·map}
 use Prim.Native.Nat.{ℕ, _≤_}
@@ -19,20 +19,22 @@ use Rattle.request_spec.specs.declared.command.Command.{Command}
 use Rattle.request_spec.specs.declared.command.Acceptance.{Acceptance}
 use Rattle.request_spec.specs.declared.command.Acceptance.the-variants.{Accepted, Faulty}
 use Rattle.request_spec.specs.Limits.{headerLength}
-use Rattle.request_spec.specs.Parameters.{lengthOf, isSpeed}
-use Rattle.request_spec.specs.Acceptance.{acceptance, nackOf, FitsCommand}
+use Rattle.request_spec.specs.Parameters.{lengthOf}
+use Rattle.request_spec.specs.Acceptance.{nackOf, FitsCommand}
 use Rattle.request_spec.specs.Replies.{NACK, sign, dataIn, identifierOf, commandOf, dataOf, wrongCheck}
-use Rattle.request_spec.proofs.Laws.Acceptance.{accepts, fits-command}
 use Rattle.reader_spec.specs.declared.reader.Asking.{Asking}
 use Rattle.reader_spec.specs.declared.reader.Asking.the-variants.{Nothing, Wrong, Right}
 use Rattle.reader_spec.specs.declared.reader.Repeat.the-variants.{New, Stored}
 use Rattle.reader_spec.specs.Limits.{room}
-use Rattle.reader_spec.specs.Parameters.{valueOf}
+use Rattle.reader_spec.specs.Speeds.{hasSpeed, serves, verdict}
+use Rattle.reader_spec.specs.Parameters.{freshParameters, valueOf, afterPower}
 use Rattle.reader_spec.specs.State.{Last, lastOf, State, stateWith, freshState, find, tooFar, badState}
 use Rattle.reader_spec.specs.Replies.{replyImage, replyTo}
 use Rattle.reader_spec.specs.Sending.{OUT, STORE, Buffers, sent}
 use Rattle.reader_spec.specs.Answering.{Input, Answered, LentWell, sending, nacked, executed, judged, recalled, framed, stepped}
-use Rattle.reader_spec.specs.Sessions.{Execution, imageOf, History, begun, forgetting, repeats, isFrame, repeatsLast, asksFor, judgedHistory, nextHistoryAs, judgedReply, bytesOf, dueAs, StoreKept}
+use Rattle.reader_spec.specs.Sessions.{Execution, imageOf, History, freshValues, begun, poweredValue, forgetting, repeats, isFrame, repeatsLast, asksFor, verdictOn, judgedHistory, nextHistoryAs, judgedReply, bytesOf, dueAs, StoreKept}
+use Rattle.reader_spec.proofs.Laws.Speeds.{powered-has, served-was, done-fits}
+use Rattle.reader_spec.proofs.Laws.Parameters.{value-powered, powered-sized}
 use Rattle.reader_spec.proofs.Laws.Replies.{point-room}
 use Rattle.reader_spec.proofs.Laws.Answering.{framed-by}
 use Rattle.reader_spec.proofs.Laws.Sending.{sent-none, sent-out, sent-store}
@@ -57,7 +59,8 @@ InStore true held (some e) = take (length (imageOf e)) held ≡ imageOf e
 pub record Agrees (alone : Bool) (s : State) (held : List ℕ) (h : History) : Type 0 where
   pub values : valueOf (s .parameters) ≡ h .value
   pub sized : (p : Parameter) → length (h .value p) ≡ lengthOf p
-  pub speed : isSpeed (s .parameters .speed) ≡ true
+  pub fast : s .fast ≡ h .fast
+  pub speed : hasSpeed (s .fast) (s .parameters .speed) ≡ true
   pub memory : s .last ≡ memoryOf (h .last)
   pub fits : Fits (h .last)
   pub stored : InStore alone held (h .last)
@@ -68,24 +71,43 @@ none-stored false held = tt
 
 -- ---- a fresh reader, and that such a state is good
 
-pub agrees-fresh : (alone : Bool) (store : List ℕ) → Agrees alone freshState store begun
-agrees-fresh alone store =
-    record { values = λ i p. first p i; sized = sized; speed = refl; memory = refl; fits = tt; stored = none-stored alone store }
+pub agrees-fresh : (alone : Bool) (store : List ℕ) (fast : Bool) → Agrees alone (freshState fast) store (begun fast)
+agrees-fresh alone store fast =
+    record {
+      values = λ i p. first p i;
+      sized = sized;
+      fast = refl;
+      speed = or-true fast;
+      memory = refl;
+      fits = tt;
+      stored = none-stored alone store;
+    }
   where
-    first : (p : Parameter) → valueOf (freshState .parameters) p ≡ begun .value p
+    first : (p : Parameter) → valueOf freshParameters p ≡ freshValues p
     first Speed = refl
     first Settings = refl
     first Cell = refl
 
-    sized : (p : Parameter) → length (begun .value p) ≡ lengthOf p
+    sized : (p : Parameter) → length (freshValues p) ≡ lengthOf p
     sized Speed = refl
     sized Settings = refl
     sized Cell = refl
 
 pub agrees-powered : {alone : Bool} {s : State} {held : List ℕ} {h : History} → Agrees alone s held h
-    → Agrees alone (stateWith (s .parameters) none) held (forgetting h)
-agrees-powered {alone} {held = held} a =
-    record { values = a .values; sized = a .sized; speed = a .speed; memory = refl; fits = tt; stored = none-stored alone held }
+    → Agrees alone (stateWith (afterPower (s .parameters)) (s .fast) none) held (forgetting h)
+agrees-powered {alone} {s} {held} {h} a =
+    record {
+      values = λ i p. of p i;
+      sized = λ p. powered-sized p (h .value p) (a .sized p);
+      fast = a .fast;
+      speed = powered-has (s .fast) (s .parameters .speed) (a .speed);
+      memory = refl;
+      fits = tt;
+      stored = none-stored alone held;
+    }
+  where
+    of : (p : Parameter) → valueOf (afterPower (s .parameters)) p ≡ poweredValue p (h .value p)
+    of p = value-powered (s .parameters) p ∙ ap (λ (v : Parameter → List ℕ). poweredValue p (v p)) (a .values)
 
 pub image-room : (e : Execution) → length (dataIn (e .reply)) ≤ mostData → length (imageOf e) ≤ room
 image-room e fits = point-room (e .identifier) _ (dataIn (e .reply)) fits
@@ -104,13 +126,14 @@ agrees-lent alone {held = held} {store = store} {h = h} a same =
     record {
       values = a .values;
       sized = a .sized;
+      fast = a .fast;
       speed = a .speed;
       memory = a .memory;
       fits = a .fits;
       stored = of alone (h .last) same (a .stored);
     }
   where
-    of : (alone : Bool) (last : Option Execution) → StoreKept alone (record { value = h .value; last = last }) held store
+    of : (alone : Bool) (last : Option Execution) → StoreKept alone (record { value = h .value; fast = h .fast; last = last }) held store
         → InStore alone held last
         → InStore alone store last
     of false last same kept = tt
@@ -129,20 +152,22 @@ recalledAs s lent none = sending s OUT 0 lent
 recalledAs s lent (some e) = sending s STORE (length (imageOf e)) lent
 
 module _ (s : State) (i : Input) (lent : Buffers) where
-  abbrev pub judgedAs : Answered
-  judgedAs = judged s i lent (acceptance (commandOf (i .content)) (dataOf (i .content)))
-
-  pub framed-told : (last : Option Execution) → s .last ≡ memoryOf last
-      → framed s i lent ≡ cond (repeats last (identifierOf (i .content)) (commandOf (i .content))) (recalledAs s lent last) judgedAs
-  framed-told last remembered =
-      framed-by s i lent (ap (λ (m : Option Last). find m (identifierOf (i .content)) (commandOf (i .content))) remembered) ∙ of last
+  pub framed-told : (h : History) → s .last ≡ memoryOf (h .last) → s .fast ≡ h .fast
+      → framed s i lent ≡ cond (repeatsLast h i) (recalledAs s lent (h .last)) (judged s i lent (verdictOn h i))
+  framed-told h remembered same =
+      framed-by s i lent (ap (λ (m : Option Last). find m (identifierOf (i .content)) (commandOf (i .content))) remembered) ∙ of (h .last)
+      ∙ ap (λ (fast : Bool). cond (repeatsLast h i) (recalledAs s lent (h .last)) (judgedBy fast)) same
     where
+      judgedBy : Bool → Answered
+      judgedBy fast = judged s i lent (verdict fast (commandOf (i .content)) (dataOf (i .content)))
+
       of : (l : Option Execution) → recalled s i lent (find (memoryOf l) (identifierOf (i .content)) (commandOf (i .content)))
-          ≡ cond (repeats l (identifierOf (i .content)) (commandOf (i .content))) (recalledAs s lent l) judgedAs
+          ≡ cond (repeats l (identifierOf (i .content)) (commandOf (i .content))) (recalledAs s lent l) (judgedBy (s .fast))
       of none = refl
       of (some e) =
           by-test
-          (λ (t : Bool). recalled s i lent (cond t (Stored (length (imageOf e))) New) ≡ cond t (recalledAs s lent (some e)) judgedAs)
+          (λ (t : Bool). recalled s i lent (cond t (Stored (length (imageOf e))) New)
+          ≡ cond t (recalledAs s lent (some e)) (judgedBy (s .fast)))
           (repeats (some e) (identifierOf (i .content)) (commandOf (i .content))) (λ _. refl) (λ _. refl)
 
 -- ---- one call that is not refused: the state agrees with what is told next, and what is sent is due
@@ -162,16 +187,17 @@ module _ (alone : Bool) (s : State) (i : Input) (lent : Buffers) (whole : length
       record { none = refl; agrees = a; sends = λ _. sent-out (replyImage identifier sign (NACK n)) (lent .store) (lent .out) }
 
   module _ (last : Option Execution) where
-    abbrev known : (Parameter → List ℕ) → History
-    known value = record { value = value; last = last }
+    -- what was told before, in the state's own words
+    abbrev known : History
+    known = record { value = valueOf (s .parameters); fast = s .fast; last = last }
 
     -- steps 4 to 6
-    executed-agrees : (command : Command) → FitsCommand command (dataOf (i .content))
-        → Agrees alone s (lent .store) (known (valueOf (s .parameters)))
-        → StepAgrees alone (judgedHistory (known (valueOf (s .parameters))) i (Accepted command))
+    executed-agrees : (command : Command) → FitsCommand command (dataOf (i .content)) → serves (s .fast) command (dataOf (i .content)) ≡ true
+        → Agrees alone s (lent .store) known
+        → StepAgrees alone (judgedHistory known i (Accepted command))
         (bytesOf (i .content) (some (replyTo (valueOf (s .parameters)) command (i .header) (i .antenna)))) false
         (executed s i lent command)
-    executed-agrees command carried a =
+    executed-agrees command carried served a =
         let value = valueOf (s .parameters) in
         let reply = replyTo value command (i .header) (i .antenna) in
         let e : Execution = record { identifier = identifierOf (i .content); code = commandOf (i .content); reply = reply } in
@@ -180,7 +206,8 @@ module _ (alone : Bool) (s : State) (i : Input) (lent : Buffers) (whole : length
           agrees = record {
             values = done-values (s .parameters) (dataOf (i .content)) command carried;
             sized = done-sized value (a .sized) (dataOf (i .content)) command carried;
-            speed = done-speed (s .parameters) (dataOf (i .content)) command carried (a .speed);
+            fast = refl;
+            speed = done-speed (s .parameters) (dataOf (i .content)) (s .fast) command carried served (a .speed);
             memory = refl;
             fits = reply-fits value (a .sized) (i .header) (i .antenna) command whole (well .0);
             stored = stored-onto alone e (lent .store);
@@ -188,20 +215,21 @@ module _ (alone : Bool) (s : State) (i : Input) (lent : Buffers) (whole : length
           sends = λ _. sent-out (imageOf e) (onto (imageOf e) (lent .store)) (lent .out);
         }
 
-    judged-agrees : (k : Acceptance) → acceptance (commandOf (i .content)) (dataOf (i .content)) ≡ k
-        → Agrees alone s (lent .store) (known (valueOf (s .parameters)))
-        → StepAgrees alone (judgedHistory (known (valueOf (s .parameters))) i k)
-        (bytesOf (i .content) (some (judgedReply (known (valueOf (s .parameters))) i k))) false (judged s i lent k)
+    judged-agrees : (k : Acceptance) → verdict (s .fast) (commandOf (i .content)) (dataOf (i .content)) ≡ k
+        → Agrees alone s (lent .store) known
+        → StepAgrees alone (judgedHistory known i k) (bytesOf (i .content) (some (judgedReply known i k))) false (judged s i lent k)
     judged-agrees (Faulty fault) asked a = nack-agrees (identifierOf (i .content)) (nackOf fault) a
-    judged-agrees (Accepted command) asked a = executed-agrees command (fits-command (accepts (commandOf (i .content)) (dataOf (i .content)) asked)) a
+    judged-agrees (Accepted command) asked a =
+        executed-agrees command (done-fits (s .fast) (commandOf (i .content)) (dataOf (i .content)) asked)
+        (served-was (s .fast) (dataOf (i .content)) (asksFor i) asked .1) a
 
-  recalled-agrees : (value : Parameter → List ℕ) (last : Option Execution)
+  recalled-agrees : (value : Parameter → List ℕ) (fast : Bool) (last : Option Execution)
       → repeats last (identifierOf (i .content)) (commandOf (i .content)) ≡ true
-      → Agrees alone s (lent .store) (record { value = value; last = last })
-      → StepAgrees alone (record { value = value; last = last })
+      → Agrees alone s (lent .store) (record { value = value; fast = fast; last = last })
+      → StepAgrees alone (record { value = value; fast = fast; last = last })
       (bytesOf (i .content) (Option·map (λ (e : Execution). e .reply) last)) true (recalledAs s lent last)
-  recalled-agrees value none same a = absurd (true≢false (sym same))
-  recalled-agrees value (some e) same a =
+  recalled-agrees value fast none same a = absurd (true≢false (sym same))
+  recalled-agrees value fast (some e) same a =
       let (j, k) = and-eq-true-iff (eqb (e .identifier) (identifierOf (i .content))) (eqb (e .code) (commandOf (i .content))) .0 same in
       let own = eqb-true (e .identifier) (identifierOf (i .content)) j in
       let asked = eqb-true (e .code) (commandOf (i .content)) k in
@@ -221,23 +249,24 @@ module _ (alone : Bool) (s : State) (i : Input) (lent : Buffers) (whole : length
   frame-agrees : (h : History) → Agrees alone s (lent .store) h
       → StepAgrees alone (nextHistoryAs h i Right) (bytesOf (i .content) (dueAs h i Right)) (repeatsLast h i) (framed s i lent)
   frame-agrees h a =
-      let k = asksFor i in
+      let k = verdictOn h i in
       subst⁻¹ (StepAgrees alone (nextHistoryAs h i Right) (bytesOf (i .content) (dueAs h i Right)) (repeatsLast h i))
-      (framed-told s i lent (h .last) (a .memory))
+      (framed-told s i lent h (a .memory) (a .fast))
       (by-test
       (λ (t : Bool). StepAgrees alone (cond t h (judgedHistory h i k))
       (bytesOf (i .content) (cond t (Option·map (λ (e : Execution). e .reply) (h .last)) (some (judgedReply h i k)))) t
       (cond t (recalledAs s lent (h .last)) (judged s i lent k)))
       (repeatsLast h i)
-      (λ same. recalled-agrees (h .value) (h .last) same a)
-      (λ _. subst P (a .values) (judged-agrees (h .last) k refl
-      (subst⁻¹ (λ (v : Parameter → List ℕ). Agrees alone s (lent .store) (record { value = v; last = h .last })) (a .values) a))))
+      (λ same. recalled-agrees (h .value) (h .fast) (h .last) same a)
+      (λ _. subst P told (judged-agrees (h .last) (verdictOn (known (h .last)) i) refl (subst⁻¹ (Agrees alone s (lent .store)) told a))))
     where
-      P : (Parameter → List ℕ) → Type 0
-      P v =
-          let h′ : History = record { value = v; last = h .last } in
-          StepAgrees alone (judgedHistory h′ i (asksFor i)) (bytesOf (i .content) (some (judgedReply h′ i (asksFor i)))) false
-          (judged s i lent (asksFor i))
+      told : known (h .last) ≡ h
+      told = λ j. record { value = a .values j; fast = a .fast j; last = h .last }
+
+      P : History → Type 0
+      P g =
+          StepAgrees alone (judgedHistory g i (verdictOn g i)) (bytesOf (i .content) (some (judgedReply g i (verdictOn g i)))) false
+          (judged s i lent (verdictOn g i))
 
   -- each step
   pub step-agrees : (asked : Asking) (h : History) → Agrees alone s (lent .store) h

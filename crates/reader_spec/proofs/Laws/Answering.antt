@@ -1,8 +1,8 @@
 -- What a call of the reader answers, and its refusals.
 -- Assumes nothing.
-use mathlib.Core.Path.{_≡_, refl, sym, ap, _∙_}
+use mathlib.Core.Path.{_≡_, refl, sym, ap, subst⁻¹, _∙_}
 use mathlib.Core.Bool.{Bool, true, false, _&&_, _||_, and-false, true≢false}
-use mathlib.Core.List.{List, _∷_}
+use mathlib.Core.List.{List, [], _∷_}
 use mathlib.Core.Option.{none}
 use Prim.Native.Nat.{ℕ, _≤_, _<_}
 use native.Mathlib.Omega.{arith}
@@ -16,21 +16,25 @@ use Rattle.ground.specs.Refusals.{number, Keeps, AnswersOnly}
 use Rattle.ground.proofs.Laws.Choice.{cond-elim, or-none, by-test}
 use Rattle.link_spec.specs.Limits.{mostData}
 use Rattle.link_spec.specs.Events.{Name, NONE, FRAME, CHECK, SHORT, LONG, PAIR, ADDR}
+use Rattle.request_spec.specs.declared.parameter.Parameter.the-variants.{Speed}
 use Rattle.request_spec.specs.declared.command.Acceptance.{Acceptance}
 use Rattle.request_spec.specs.declared.command.Acceptance.the-variants.{Accepted, Faulty}
 use Rattle.request_spec.specs.Limits.{mostAntenna}
-use Rattle.request_spec.specs.Acceptance.{acceptance, nackOf}
+use Rattle.request_spec.specs.Acceptance.{nackOf}
 use Rattle.request_spec.specs.Replies.{NACK, sign, identifierOf, commandOf, dataOf, wrongCheck}
 use Rattle.reader_spec.specs.declared.reader.Asking.{Asking}
 use Rattle.reader_spec.specs.declared.reader.Asking.the-variants.{Nothing, Wrong, Right}
 use Rattle.reader_spec.specs.declared.reader.Repeat.{Repeat}
 use Rattle.reader_spec.specs.declared.reader.Repeat.the-variants.{New, Stored}
 use Rattle.reader_spec.specs.Limits.{room, leastFront, mostFront}
+use Rattle.reader_spec.specs.Speeds.{isAbove, verdict}
+use Rattle.reader_spec.specs.Parameters.{withValue, afterPower}
 use Rattle.reader_spec.specs.State.{State, stateWith, find, badState, BadState}
 use Rattle.reader_spec.specs.Asking.{asking}
 use Rattle.reader_spec.specs.Replies.{replyImage}
 use Rattle.reader_spec.specs.Sending.{OUT, Buffers}
-use Rattle.reader_spec.specs.Answering.{PoweredOn, poweredOn, PowerTable, refuses, forgets, Input, Answered, notAnswered, nacked, replyBytes, judged, recalled, framed, stepped, LentWell, isFront, fits, admitted, answered, CarriesContent, frame, check, Unfit, short, long, ReaderTable, state, noStore, noOut, tooLong, request, steps}
+use Rattle.reader_spec.specs.Answering.{PoweredOn, poweredOn, PowerTable, refuses, keeps, slows, Input, Answered, notAnswered, nacked, replyBytes, judged, recalled, framed, stepped, LentWell, isFront, fits, admitted, answered, CarriesContent, frame, check, Unfit, short, long, ReaderTable, state, noStore, noOut, tooLong, request, steps}
+use Rattle.reader_spec.proofs.Laws.Speeds.{speed-stays, speed-falls}
 use Rattle.reader_spec.proofs.Laws.State.{bad-state, bad-row, good-state, no-row}
 
 -- ---- power-on: row 4 of the refusal table, when and only then
@@ -40,18 +44,35 @@ unfolding poweredOn
 refuses-power bad = rw (bad-state bad)
 
 -- and else it is that of a good reader
-pub powers-on : (s : State) → badState s ≡ false → poweredOn s ≡ record { refusal = 0; state = stateWith (s .parameters) none }
+pub powers-on : (s : State) → badState s ≡ false
+    → poweredOn s ≡ record { refusal = 0; state = stateWith (afterPower (s .parameters)) (s .fast) none }
 unfolding poweredOn
 powers-on s good = rw good
 
+module _ (s : State) (good : badState s ≡ false) where
+  abbrev poweredAt : ℕ → PoweredOn
+  poweredAt v = record { refusal = 0; state = stateWith (withValue (s .parameters) Speed (v ∷ [])) (s .fast) none }
+
+  power-keeps : s .parameters .speed ≤ 7 → poweredOn s ≡ poweredAt (s .parameters .speed)
+  power-keeps few = powers-on s good ∙ ap poweredAt (speed-stays (s .parameters .speed) few)
+
+  power-slows : 8 ≤ s .parameters .speed → poweredOn s ≡ poweredAt 3
+  power-slows many = powers-on s good ∙ ap poweredAt (speed-falls (s .parameters .speed) many)
+
 pub power-by-table : (s : State) → PowerTable s (poweredOn s)
-unfolding poweredOn
 power-by-table s =
-    cond-elim (PowerTable s) (badState s) (λ bad. refuses (bad-row s bad)) (λ good. forgets (good-state good))
+    by-test (λ (t : Bool). badState s ≡ t → PowerTable s (poweredOn s)) (badState s)
+    (λ _ bad. subst⁻¹ (PowerTable s) (refuses-power (bad-row s bad)) (refuses (bad-row s bad)))
+    (λ _ good. by-test (λ (t : Bool). isAbove (s .parameters .speed) ≡ t → PowerTable s (poweredOn s)) (isAbove (s .parameters .speed))
+    (λ _ above. let many = ltb-true 7 (s .parameters .speed) above in
+    subst⁻¹ (PowerTable s) (power-slows s good many) (slows (good-state good) many))
+    (λ _ below. let few = ltb-false 7 (s .parameters .speed) below in
+    subst⁻¹ (PowerTable s) (power-keeps s good few) (keeps (good-state good) few)) refl) refl
 
 pub power-only : {s : State} {p : PoweredOn} → PowerTable s p → p ≡ poweredOn s
 power-only (refuses bad) = sym (refuses-power bad)
-power-only {s} (forgets good) = sym (powers-on s (no-row s good))
+power-only {s} (keeps good few) = sym (power-keeps s (no-row s good) few)
+power-only {s} (slows good many) = sym (power-slows s (no-row s good) many)
 
 -- a refused one leaves the reader as before
 pub powered-keeps : (s : State) → Keeps (poweredOn s .refusal) s (poweredOn s .state)
@@ -229,7 +250,7 @@ module _ (s : State) (i : Input) (lent : Buffers) where
 
   recalled-kept : (k : Repeat) → Kept (recalled s i lent k)
   recalled-kept (Stored length) = record { none = refl; store = refl; out = refl }
-  recalled-kept New = judged-kept (acceptance (commandOf (i .content)) (dataOf (i .content)))
+  recalled-kept New = judged-kept (verdict (s .fast) (commandOf (i .content)) (dataOf (i .content)))
 
   step-kept : (asked : Asking) → Kept (stepped s i lent asked)
   unfolding framed
@@ -239,6 +260,18 @@ module _ (s : State) (i : Input) (lent : Buffers) where
 
   pub steps-fine : (asked : Asking) → stepped s i lent asked .refusal ≡ 0
   steps-fine asked = step-kept asked .none
+
+  -- 4 is for a bad state, and only for that
+  pub four-only : answered s i lent .refusal ≡ number BAD → BadState s
+  four-only = of by-table
+    where
+      of : {a : Answered} → ReaderTable s i lent a → a .refusal ≡ number BAD → BadState s
+      of (state bad) is = bad
+      of (noStore good few) is = absurd (omega (arith, is))
+      of (noOut good kept few) is = absurd (omega (arith, is))
+      of (tooLong good kept enough over) is = absurd (omega (arith, is))
+      of (request good well bad) is = absurd (omega (arith, is))
+      of (steps good well fit) is = absurd (omega (arith, sym (steps-fine (asking (i .event))) ∙ is))
 
   -- later bytes of both buffers stay: of any call, those after the bytes that are sent
   pub later-stay : let a = answered s i lent in

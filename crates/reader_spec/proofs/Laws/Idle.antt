@@ -20,10 +20,10 @@ use Rattle.reader_spec.specs.State.{State, stateOf}
 use Rattle.reader_spec.specs.Asking.{asking}
 use Rattle.reader_spec.specs.Sending.{Buffers}
 use Rattle.reader_spec.specs.Answering.{Input, Answered, answerSays, judged, stepped}
-use Rattle.reader_spec.specs.Sessions.{Execution, History, repeatsLast, asksFor, judgedHistory, nextHistoryAs, nextHistory, isExecutedAs, isExecuted, remembers, StoreKept, Call, Done, ReaderSession, called, Idle, rests, passes}
+use Rattle.reader_spec.specs.Sessions.{Execution, History, repeatsLast, verdictOn, judgedHistory, nextHistoryAs, nextHistory, isExecutedAs, isExecuted, remembers, StoreKept, Call, Done, ReaderSession, called, Idle, rests, passes}
 use Rattle.reader_spec.specs.Promises.{Unchanged, Same}
 use Rattle.reader_spec.proofs.Laws.Answering.{row-elim, steps-fine}
-use Rattle.reader_spec.proofs.Laws.Agreeing.{memoryOf, recalledAs, judgedAs, framed-told}
+use Rattle.reader_spec.proofs.Laws.Agreeing.{memoryOf, recalledAs, framed-told}
 use Rattle.reader_spec.proofs.Laws.Sessions.{session-agrees, loose-call}
 
 -- ---- such a call tells nothing new
@@ -36,8 +36,8 @@ executes-nothing-as : (h : History) (i : Input) (asked : Asking) → isExecutedA
 executes-nothing-as h i Nothing idle = refl
 executes-nothing-as h i Wrong idle = refl
 executes-nothing-as h i Right idle =
-    by-test (λ (t : Bool). (not t && isAccepted (asksFor i)) ≡ false → cond t h (judgedHistory h i (asksFor i)) ≡ h)
-    (repeatsLast h i) (λ _ _. refl) (λ _ n. judged-nothing h i (asksFor i) n) idle
+    by-test (λ (t : Bool). (not t && isAccepted (verdictOn h i)) ≡ false → cond t h (judgedHistory h i (verdictOn h i)) ≡ h)
+    (repeatsLast h i) (λ _ _. refl) (λ _ n. judged-nothing h i (verdictOn h i) n) idle
 
 pub executes-nothing : (h : History) (i : Input) → isExecuted h i ≡ false → nextHistory h i ≡ h
 executes-nothing h i = executes-nothing-as h i (asking (i .event))
@@ -53,15 +53,16 @@ module _ (s : State) (i : Input) (lent : Buffers) where
   recalled-keeps none = record { state = refl; store = refl }
   recalled-keeps (some e) = record { state = refl; store = refl }
 
-  step-keeps : (asked : Asking) (h : History) → s .last ≡ memoryOf (h .last) → isExecutedAs h i asked ≡ false
+  step-keeps : (asked : Asking) (h : History) → s .last ≡ memoryOf (h .last) → s .fast ≡ h .fast → isExecutedAs h i asked ≡ false
       → Unchanged s lent (stepped s i lent asked)
-  step-keeps Nothing h remembered idle = record { state = refl; store = refl }
-  step-keeps Wrong h remembered idle = record { state = refl; store = refl }
-  step-keeps Right h remembered idle =
-      subst⁻¹ (Unchanged s lent) (framed-told s i lent (h .last) remembered)
+  step-keeps Nothing h remembered same idle = record { state = refl; store = refl }
+  step-keeps Wrong h remembered same idle = record { state = refl; store = refl }
+  step-keeps Right h remembered same idle =
+      subst⁻¹ (Unchanged s lent) (framed-told s i lent h remembered same)
       (by-test
-      (λ (t : Bool). (not t && isAccepted (asksFor i)) ≡ false → Unchanged s lent (cond t (recalledAs s lent (h .last)) (judgedAs s i lent)))
-      (repeatsLast h i) (λ _ _. recalled-keeps (h .last)) (λ _ n. judged-keeps (asksFor i) n) idle)
+      (λ (t : Bool). (not t && isAccepted (verdictOn h i)) ≡ false
+      → Unchanged s lent (cond t (recalledAs s lent (h .last)) (judged s i lent (verdictOn h i))))
+      (repeatsLast h i) (λ _ _. recalled-keeps (h .last)) (λ _ n. judged-keeps (verdictOn h i) n) idle)
 
 pub call-keeps : {among alone : Bool} {h : History} {s : Reader} {held : List ℕ} → ReaderSession among s held h → (c : Call alone h s held)
     → (Done c → isExecuted h (c .input) ≡ false)
@@ -72,7 +73,7 @@ call-keeps {h = h} {s = s} se c idle =
     (λ (a : Answered). (a .refusal ≡ 0 → isExecuted h (c .input) ≡ false) → Unchanged (stateOf s) (c .lent) a)
     (λ _ _ _. record { state = refl; store = refl })
     (λ well _ idle. step-keeps (stateOf s) (c .input) (c .lent) (asking (c .input .event)) h (session-agrees se .memory)
-    (idle (steps-fine (stateOf s) (c .input) (c .lent) (asking (c .input .event)))))
+    (session-agrees se .fast) (idle (steps-fine (stateOf s) (c .input) (c .lent) (asking (c .input .event)))))
     (λ none. idle (ap (λ (a : Answered). a .refusal) (c .says) ∙ none)))
 
 told-same : (n : ℕ) {h k : History} → (n ≡ 0 → k ≡ h) → cond (eqb n 0) k h ≡ h

@@ -15,21 +15,23 @@ use Rattle.request_spec.specs.declared.command.Acceptance.{Acceptance}
 use Rattle.request_spec.specs.declared.command.Acceptance.the-variants.{Accepted, Faulty}
 use Rattle.request_spec.specs.declared.command.Command.{Command}
 use Rattle.request_spec.specs.Acceptance.{isAccepted}
-use Rattle.request_spec.specs.Replies.{NACK, sign, wrongCheck, identifierOf, commandOf}
+use Rattle.request_spec.specs.Replies.{NACK, sign, wrongCheck, identifierOf, commandOf, dataOf}
 use Rattle.reader_spec.specs.declared.reader.Asking.{Asking}
 use Rattle.reader_spec.specs.declared.reader.Asking.the-variants.{Nothing, Wrong, Right}
 use Rattle.reader_spec.specs.declared.reader.Reader.{Reader}
+use Rattle.reader_spec.specs.declared.reader.Powered.{Powered}
 use Rattle.reader_spec.specs.State.{State, stateOf, freshState, badState}
 use Rattle.reader_spec.specs.Asking.{asking}
 use Rattle.reader_spec.specs.Replies.{replyImage, replyTo}
 use Rattle.reader_spec.specs.Sending.{sent}
-use Rattle.reader_spec.specs.Answering.{PoweredOn, Input, Answered, LentWell, answerSays, executed, stepped}
-use Rattle.reader_spec.specs.Sessions.{Execution, imageOf, History, begun, poweredBy, repeats, isFrame, bytesOf, repeatsLast, asksFor, nextHistory, nextHistoryBy, judgedReply, toSend, isRepeat, isExecuted, remembers, Call, Done, bytesSent, ReaderSession, begins, powered, called}
+use Rattle.reader_spec.specs.Answering.{PoweredOn, powering, poweredOn, Input, Answered, LentWell, answerSays, executed, judged, stepped}
+use Rattle.reader_spec.specs.Sessions.{Execution, imageOf, History, begun, poweredBy, repeats, isFrame, bytesOf, repeatsLast, asksFor, verdictOn, nextHistory, nextHistoryBy, judgedReply, toSend, isRepeat, isExecuted, remembers, Call, Done, bytesSent, ReaderSession, begins, powered, called}
 use Rattle.reader_spec.specs.Promises.{Recalls}
+use Rattle.reader_spec.proofs.Laws.Speeds.{served-was}
 use Rattle.reader_spec.proofs.Laws.State.{readerWith, state-back}
 use Rattle.reader_spec.proofs.Laws.Answering.{powers-on, row-elim}
 use Rattle.reader_spec.proofs.Laws.Sending.{sent-store}
-use Rattle.reader_spec.proofs.Laws.Agreeing.{Fits, image-room, recalledAs, judgedAs, framed-told, Agrees, agrees-fresh, agrees-powered, agrees-good, agrees-lent, step-agrees}
+use Rattle.reader_spec.proofs.Laws.Agreeing.{Fits, image-room, recalledAs, framed-told, Agrees, agrees-fresh, agrees-powered, agrees-good, agrees-lent, step-agrees}
 
 -- ---- every call of a session
 
@@ -55,7 +57,8 @@ call-follows {alone} {h} {s} a c =
 
 pub session-agrees : {alone : Bool} {s : Reader} {held : List ℕ} {h : History} → ReaderSession alone s held h
     → Agrees alone (stateOf s) held h
-session-agrees {alone} (begins r store is) = subst⁻¹ (λ (s : State). Agrees alone s store begun) is (agrees-fresh alone store)
+session-agrees {alone} (begins r store fast is) =
+    subst⁻¹ (λ (s : State). Agrees alone s store (begun fast)) is (agrees-fresh alone store fast)
 session-agrees {alone} {held = held} (powered {s} {h = h} se r says) =
     let a = session-agrees se in
     subst⁻¹ (λ (p : PoweredOn). Agrees alone (p .state) held (poweredBy h (p .refusal))) (says ∙ powers-on (stateOf s) (agrees-good a))
@@ -68,12 +71,18 @@ loose-call c =
     record { input = c .input; lent = c .lent; answer = c .answer; left = c .left; kept = tt; whole = c .whole; says = c .says }
 
 -- a session begins with a fresh reader
-pub fresh-session : {alone : Bool} (store : List ℕ) → ReaderSession alone (readerWith freshState) store begun
-fresh-session store = begins (readerWith freshState) store (state-back freshState)
+pub fresh-session : {alone : Bool} (store : List ℕ) (fast : Bool) → ReaderSession alone (readerWith (freshState fast)) store (begun fast)
+fresh-session store fast = begins (readerWith (freshState fast)) store fast (state-back (freshState fast))
 
--- speed is 3..10 and the remembered length at most 130 in every state that is reached: no call finds a bad state
+-- the speed is one that the reader has and the remembered length at most 130 in every state that is reached: no call finds a bad state
 pub session-good : {alone : Bool} {s : Reader} {held : List ℕ} {h : History} → ReaderSession alone s held h → badState (stateOf s) ≡ false
 session-good se = agrees-good (session-agrees se)
+
+-- nor does a power-on
+pub power-fine : {alone : Bool} {s : Reader} {held : List ℕ} {h : History} → ReaderSession alone s held h → (r : Powered)
+    → powering r ≡ poweredOn (stateOf s)
+    → number (r .refusal) ≡ 0
+power-fine {s = s} se r says = ap (λ (p : PoweredOn). p .refusal) (says ∙ powers-on (stateOf s) (session-good se))
 
 module _ {alone : Bool} {s : Reader} {held : List ℕ} {h : History} (se : ReaderSession alone s held h) (c : Call alone h s held) (done : Done c)
   where
@@ -91,7 +100,7 @@ module _ {alone : Bool} {s : Reader} {held : List ℕ} {h : History} (se : Reade
     check-nacked is = rw is at session-sends (λ again. absurd (true≢false (sym again)))
 
     -- to a FRAME that repeats nothing the reply to what it asks for, and NACK 2 or 3 where it is not accepted
-    pub session-replies : {k : Acceptance} → c .input .event ≡ FRAME → repeatsLast h (c .input) ≡ false → asksFor (c .input) ≡ k
+    pub session-replies : {k : Acceptance} → c .input .event ≡ FRAME → repeatsLast h (c .input) ≡ false → verdictOn h (c .input) ≡ k
         → bytesSent c
         ≡ replyImage (identifierOf (c .input .content)) (commandOf (c .input .content)) (judgedReply h (c .input) k)
     session-replies is new asked = rw (is, new, asked) at session-sends (λ again. absurd (true≢false (sym again)))
@@ -109,10 +118,10 @@ module _ {alone : Bool} {s : Reader} {held : List ℕ} {h : History} (se : Reade
 
     module _ (asks : asking (c .input .event) ≡ Right) where
       pub call-framed : answerSays (c .answer) (c .left)
-          ≡ cond (repeatsLast h (c .input)) (recalledAs (stateOf s) (c .lent) (h .last)) (judgedAs (stateOf s) (c .input) (c .lent))
+          ≡ cond (repeatsLast h (c .input)) (recalledAs (stateOf s) (c .lent) (h .last)) (judged (stateOf s) (c .input) (c .lent) (verdictOn h (c .input)))
       call-framed =
           call-steps .0 ∙ ap (stepped (stateOf s) (c .input) (c .lent)) asks
-          ∙ framed-told (stateOf s) (c .input) (c .lent) (h .last) (session-agrees se .memory)
+          ∙ framed-told (stateOf s) (c .input) (c .lent) h (session-agrees se .memory) (session-agrees se .fast)
 
       -- a repeat changes no state and no byte of a buffer, and sends what the remembered bytes of the store hold at that moment
       pub repeat-stored : repeatsLast h (c .input) ≡ true → Recalls c
@@ -135,9 +144,9 @@ module _ {alone : Bool} {s : Reader} {held : List ℕ} {h : History} (se : Reade
 
     -- a command that is executed: the reply stands in both buffers
     module _ (does : isExecuted h (c .input) ≡ true) where
-      abbrev parts : (isFrame (asking (c .input .event)) ≡ true) × ((not (repeatsLast h (c .input)) && isAccepted (asksFor (c .input))) ≡ true)
+      abbrev parts : (isFrame (asking (c .input .event)) ≡ true) × ((not (repeatsLast h (c .input)) && isAccepted (verdictOn h (c .input))) ≡ true)
       parts =
-          and-eq-true-iff (isFrame (asking (c .input .event))) (not (repeatsLast h (c .input)) && isAccepted (asksFor (c .input))) .0 does
+          and-eq-true-iff (isFrame (asking (c .input .event))) (not (repeatsLast h (c .input)) && isAccepted (verdictOn h (c .input))) .0 does
 
       pub is-frame : asking (c .input .event) ≡ Right
       is-frame = of (asking (c .input .event)) (parts .0)
@@ -150,28 +159,35 @@ module _ {alone : Bool} {s : Reader} {held : List ℕ} {h : History} (se : Reade
       pub is-new : repeatsLast h (c .input) ≡ false
       is-new =
           by-test (λ (t : Bool). not t ≡ true → t ≡ false) (repeatsLast h (c .input)) (λ _ never. absurd (false≢true never)) (λ _ _. refl)
-          (and-eq-true-iff (not (repeatsLast h (c .input))) (isAccepted (asksFor (c .input))) .0 (parts .1) .0)
+          (and-eq-true-iff (not (repeatsLast h (c .input))) (isAccepted (verdictOn h (c .input))) .0 (parts .1) .0)
 
       no-repeat : isRepeat h (c .input) ≡ false
       no-repeat =
           ap (λ (t : Bool). isFrame (asking (c .input .event)) && t) is-new ∙ and-false (isFrame (asking (c .input .event)))
 
-      pub is-accepted : (command : Command) × (asksFor (c .input) ≡ Accepted command)
-      is-accepted =
-          of (asksFor (c .input)) refl
-          (and-eq-true-iff (not (repeatsLast h (c .input))) (isAccepted (asksFor (c .input))) .0 (parts .1) .1)
+      is-done : (command : Command) × (verdictOn h (c .input) ≡ Accepted command)
+      is-done =
+          of (verdictOn h (c .input)) refl
+          (and-eq-true-iff (not (repeatsLast h (c .input))) (isAccepted (verdictOn h (c .input))) .0 (parts .1) .1)
         where
-          of : (k : Acceptance) → asksFor (c .input) ≡ k → isAccepted k ≡ true → (command : Command) × (asksFor (c .input) ≡ Accepted command)
+          of : (k : Acceptance) → verdictOn h (c .input) ≡ k → isAccepted k ≡ true → (command : Command) × (verdictOn h (c .input) ≡ Accepted command)
           of (Accepted command) is fine = (command, is)
           of (Faulty fault) is fine = absurd (false≢true fine)
 
+      -- so the reader does what it may be asked for
+      pub does-asked : verdictOn h (c .input) ≡ asksFor (c .input)
+      does-asked = is-done .1 ∙ sym (served-was (h .fast) (dataOf (c .input .content)) (asksFor (c .input)) (is-done .1) .0)
+
+      pub is-accepted : (command : Command) × (asksFor (c .input) ≡ Accepted command)
+      is-accepted = (is-done .0, sym does-asked ∙ is-done .1)
+
       pub call-executed : {command : Command} → asksFor (c .input) ≡ Accepted command
           → answerSays (c .answer) (c .left) ≡ executed (stateOf s) (c .input) (c .lent) command
-      call-executed asked = call-framed is-frame ∙ rw (is-new, asked)
+      call-executed asked = call-framed is-frame ∙ rw (is-new, does-asked ∙ asked)
 
       -- and its reply is sent
       pub executed-sends : {command : Command} → asksFor (c .input) ≡ Accepted command
           → bytesSent c ≡ bytesOf (c .input .content) (some (replyTo (h .value) command (c .input .header) (c .input .antenna)))
       executed-sends asked =
           let sends : bytesSent c ≡ toSend h (c .input) = session-sends (λ again. absurd (true≢false (sym again ∙ no-repeat))) in
-          rw (is-frame, is-new, asked) at sends
+          rw (is-frame, is-new, does-asked ∙ asked) at sends

@@ -15,6 +15,7 @@ use Rattle.reader_spec.specs.declared.reader.Buffer.the-variants.{Out, S
 use Rattle.reader_spec.specs.declared.reader.Reader.{Reader}
 use Rattle.reader_spec.specs.declared.reader.Powered.{Powered}
 use Rattle.reader_spec.specs.declared.reader.Answer.{Answer}
+use Rattle.reader_spec.specs.Parameters.{afterPower}
 use Rattle.reader_spec.specs.State.{stateWith, stateOf}
 use Rattle.reader_spec.specs.Asking.{asking}
 use Rattle.reader_spec.specs.Sending.{BufferName, OUT, STORE, bufferNamed, Buffers}
@@ -89,5 +90,5 @@ call-fine {s} se c well fit =
 pub power-some : {alone : Bool} {s : Reader} {held : List ℕ} {h : History} → ReaderSession alone s held h
     → (r : Powered) × (powering r ≡ poweredOn (stateOf s)) × (number (r .refusal) ≡ 0)
 power-some {s} se =
-    let left = stateWith (s .parameters) none in
+    let left = stateWith (afterPower (s .parameters)) (s .fast) none in
     (record { refusal = None; reader = readerWith left }, sym (powers-on (stateOf s) (session-good se)), refl)

@@ -233,7 +233,6 @@ case-judged (Faulty BadData) = refl
 pub judgement-injective : (a b : Acceptance) → judgement a ≡ judgement b → a ≡ b
 judgement-injective = LeftInverse·injective caseOf judgement case-judged
 
--- so what the call answered is what is accepted
-pub judged-as : {r k : Acceptance} (code : ℕ) («data» : List ℕ) → judgement r ≡ judgement (acceptance code «data») → r ≡ k
-    → acceptance code «data» ≡ k
-judged-as {r} code «data» says told = sym (judgement-injective r (acceptance code «data») says) ∙ told
+-- so what a call answered is what it says
+pub judged-as : {r k : Acceptance} (a : Acceptance) → judgement r ≡ judgement a → r ≡ k → a ≡ k
+judged-as {r} a says told = sym (judgement-injective r a says) ∙ told

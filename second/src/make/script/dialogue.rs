@@ -33,7 +33,7 @@ pub fn good(prng: &mut Prng) -> Talk {
     let code = prng.pick(&[0x00, 0x01, 0x01, 0x02, 0x02, 0x10, 0x14, 0x18]);
     let (parameter, length) = prng.pick(&[(0x02, 1), (0x05, 4), (0x80, 8)]);
     let value = match parameter {
-        0x02 => vec![prng.pick(&[3, 4, 7, 9, 10])],
+        0x02 => vec![prng.pick(&[3, 4, 7, 8, 9, 10])],
         _ => wire::bytes(prng, length),
     };
     let card = match code {
@@ -97,7 +97,7 @@ pub fn any(prng: &mut Prng) -> Talk {
         3 => talk.data = vec![prng.pick(&[0x00, 0x03, 0x04, 0x06, 0x7F, 0x81]), 0x03],
         4 => {
             talk.code = 0x01;
-            talk.data = vec![0x02, prng.pick(&[0, 2, 3, 10, 11, 255])];
+            talk.data = vec![0x02, prng.pick(&[0, 2, 3, 7, 8, 10, 11, 255])];
         }
         5 => talk.antenna.clear(),
         _ => {}
@@ -109,10 +109,8 @@ pub fn any(prng: &mut Prng) -> Talk {
 pub fn exchange(script: &mut Script) {
     let talk = any(&mut script.prng);
     let request = talk.request();
-    let image = Line::Point.image(&request);
-    let room = link::room(&mut script.prng, image.len());
-    script.record(0x24, &[&room, request.as_slice()].concat());
-    link::pieces(script, 0x10, &image);
+    typed(script, &request);
+    link::pieces(script, 0x10, &Line::Point.image(&request));
     put_header(script, &talk);
     let rooms = script.prng.pick(&[
         [600, 600],
@@ -129,6 +127,31 @@ pub fn exchange(script: &mut Script) {
         link::pieces(script, 0x10, &Line::Point.image(&talk.reply));
     }
     read(script, &talk, &talk.reply);
+}
+
+fn typed(script: &mut Script, request: &[u8]) {
+    let image = Line::Point.image(request);
+    let room = link::room(&mut script.prng, image.len());
+    script.record(0x24, &[&room, request].concat());
+}
+
+/// A write of this speed.
+pub fn write_speed(identifier: u8, speed: u8) -> Talk {
+    Talk {
+        identifier,
+        code: 0x01,
+        data: vec![0x02, speed],
+        header: vec![],
+        antenna: vec![],
+        reply: vec![identifier, ACKNOWLEDGEMENT, ACK],
+    }
+}
+
+/// A write of a speed, typed, with the answers of a fast reader and of a slow one (02, L2).
+pub fn both_answers(script: &mut Script, write: &Talk) {
+    typed(script, &write.request());
+    read(script, write, &write.reply);
+    read(script, write, &[write.identifier, ACKNOWLEDGEMENT, 3]);
 }
 
 /// Puts the header asked for, mostly.

@@ -1,9 +1,10 @@
-//! Scenes of the point reader alone: repeats, calls at the edges, records put.
+//! Scenes of the point reader alone: repeats, calls at the edges, records put, speeds.
 
 use super::dialogue::{self, Talk};
 use super::link::EDGE_NUMBERS;
 use super::{long, two, Script, MOST_ROOM};
 use crate::command::HEADER_LENGTH;
+use crate::frame::START;
 use crate::make::prng::Prng;
 use crate::make::wire;
 
@@ -106,7 +107,7 @@ fn length(prng: &mut Prng) -> usize {
 /// Any reader record, and calls of it; a sound one at the end, mostly.
 pub fn put_record(script: &mut Script) {
     let prng = &mut script.prng;
-    let speed = prng.pick(&[0, 2, 3, 3, 10, 11, 255]);
+    let speed = prng.pick(&[0, 2, 3, 3, 7, 8, 9, 10, 11, 255]);
     let length = length(prng);
     let last = [prng.pick(&[0, 1, 1, 2]), wire::byte(prng), wire::byte(prng)];
     put(script, speed, last, length);
@@ -120,9 +121,63 @@ pub fn put_record(script: &mut Script) {
     }
 }
 
-/// Puts a record; `last` is whether there is a last command, then identifier and command.
+/// Puts a record, slow or fast; `last` is whether there is a last command, then identifier and
+/// command.
 fn put(script: &mut Script, speed: u8, last: [u8; 3], length: usize) {
     let parameters = wire::bytes(&mut script.prng, 12);
-    let record = [&[speed], parameters.as_slice(), &last, &two(length)].concat();
+    let [low, high] = two(length);
+    let tail = [low, high, fast(&mut script.prng)];
+    let record = [&[speed], parameters.as_slice(), &last, &tail].concat();
     script.record(0x22, &record);
+}
+
+/// Makes a reader, slow or fast.
+fn fresh(script: &mut Script) {
+    let fast = fast(&mut script.prng);
+    script.record(0x26, &[fast]);
+}
+
+/// 0 is slow, any other fast.
+fn fast(prng: &mut Prng) -> u8 {
+    prng.pick(&[0, 0, 0, 1, 1, 2, 0x80, 0xFF])
+}
+
+/// Speeds written to a slow or a fast reader, the mains cut now and then: the same identifier and
+/// command come again, and the speed is read (02, L2).
+pub fn speeds(script: &mut Script) {
+    let was_put = script.prng.percent(30);
+    if was_put {
+        let speed = speed(&mut script.prng);
+        put(script, speed, [0, 0, 0], 0);
+    } else if script.prng.percent(80) {
+        fresh(script);
+    }
+    let identifier = script.prng.pick(&[0x00, 0x01, 0x01, START]);
+    for _ in 0..script.prng.between(1, 4) {
+        let first = speed(&mut script.prng);
+        let second = match script.prng.below(3) {
+            0 => first,
+            _ => speed(&mut script.prng),
+        };
+        for speed in [first, second] {
+            let write = dialogue::write_speed(identifier, speed);
+            call(script, FRAME, WHOLE, &[], &write.request());
+            match script.prng.below(10) {
+                0..=3 => script.record(0x21, &[]),
+                4 => script.record(0x23, &[]),
+                5 => dialogue::both_answers(script, &write),
+                _ => {}
+            }
+        }
+        call(script, FRAME, WHOLE, &[], &[identifier, 0x02, 0x02]);
+    }
+    // What was put may be refused all the time.
+    if was_put {
+        fresh(script);
+    }
+}
+
+/// A speed, or a byte beside them.
+fn speed(prng: &mut Prng) -> u8 {
+    prng.pick(&[2, 3, 4, 5, 6, 7, 7, 8, 8, 9, 9, 10, 10, 11])
 }

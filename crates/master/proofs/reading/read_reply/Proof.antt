@@ -1,6 +1,7 @@
 -- `reading::read_reply`: what `accept` answers is what is accepted, and each arm answers the case of `readBy` that it names.
 -- Assumes nothing.
 use borrow.Author.Needs.{needs}
+use Rattle.request_spec.specs.Acceptance.{acceptance}
 use Rattle.request_spec.specs.Reading.{replyRead}
 use Rattle.request_spec.proofs.Laws.Acceptance.{judged-as}
 use Rattle.master.proofs.reading.read_reply.Statement.{statement}
@@ -25,7 +26,7 @@ returns : tie.Need-returns
 unfolding replyRead
 returns c =
     let a = c .before .before .before .before .before .before .before .args in
-    rw (judged-as (a .code) (a .«data» .now) (c .before .before .before .before .accept .ensures) (c .before .before .acceptance .given .1))
+    rw (judged-as (acceptance (a .code) (a .«data» .now)) (c .before .before .before .before .accept .ensures) (c .before .before .acceptance .given .1))
     (c .read-as .ensures)
 
 returns-2 : tie.Need-returns-2
@@ -34,7 +35,7 @@ returns-2 c =
     let a = c .before .before .before .before .before .before .args in
     rw (
       c .refused .ensures,
-      judged-as (a .code) (a .«data» .now) (c .before .before .before .accept .ensures) (c .before .enum-told .given .1),
+      judged-as (acceptance (a .code) (a .«data» .now)) (c .before .before .before .accept .ensures) (c .before .enum-told .given .1),
     )
 
 pub read-reply-spec : {M : Type 1} → statement M

@@ -1,4 +1,4 @@
--- `steps::answer_frame`: the memory says whether it is step 3, and the acceptance of code and data whether it is 4, 5 or 6.
+-- `steps::answer_frame`: the memory says whether it is step 3, and what this reader makes of code and data whether it is 4, 5 or 6.
 -- Assumes nothing.
 use mathlib.Core.Path.{sym, _∙_}
 use native.Mathlib.Omega.{arith}
@@ -6,9 +6,11 @@ use borrow.Author.Needs.{needs}
 use Rattle.ground.proofs.Laws.Lists.{take-rest}
 use Rattle.request_spec.specs.declared.command.Acceptance.the-variants.{Accepted, Faulty}
 use Rattle.request_spec.specs.Replies.{NACK, sign, identifierOf, commandOf}
-use Rattle.request_spec.proofs.Laws.Acceptance.{accepts, fits-command, judged-as}
+use Rattle.request_spec.proofs.Laws.Acceptance.{judged-as}
 use Rattle.reader_spec.specs.declared.reader.Repeat.the-variants.{Stored}
+use Rattle.reader_spec.specs.Speeds.{verdict}
 use Rattle.reader_spec.specs.Replies.{replyContent}
+use Rattle.reader_spec.proofs.Laws.Speeds.{done-fits}
 use Rattle.reader_spec.proofs.Laws.Answering.{framed-by}
 use Rattle.reader.proofs.Laws.Answering.{put-answers, framed-new, front-least}
 use Rattle.reader.proofs.steps.answer_frame.Statement.{statement}
@@ -59,23 +61,24 @@ part-data-start c = sub-data c
 part-data-end : tie.Need-part-data-end
 part-data-end c = search needs
 
-accept-requires : tie.Need-accept-requires
-accept-requires c κs = search needs
+judge-requires : tie.Need-judge-requires
+judge-requires c κs = search needs
 
-enum-known-acceptance : tie.Need-enum-known-acceptance
-enum-known-acceptance c = search needs
+enum-known-verdict : tie.Need-enum-known-verdict
+enum-known-verdict c = search needs
 
 execute-requires : tie.Need-execute-requires
 execute-requires c κs =
     let d = c .before .before .before .before .before in
-    let a = d .before .before .before .before .before .before .before .before .before .before .before in (
-      fits-command (accepts (commandOf (a .args .content .now)) _
-          (judged-as (commandOf (a .args .content .now)) _ (d .accept .ensures) (c .before .before .before .acceptance .given .1))),
+    let a = d .before .before .before .before .before .before .before .before .before .before .before in
+    let code = commandOf (a .args .content .now) in (
+      done-fits (a .args .reader .fast) code _
+          (judged-as (verdict (a .args .reader .fast) code _) (d .judge .ensures) (c .before .before .before .verdict .given .1)),
       a .pre .1,
     )
 
-enum-known-acceptance-2 : tie.Need-enum-known-acceptance-2
-enum-known-acceptance-2 c = search needs
+enum-known-verdict-2 : tie.Need-enum-known-verdict-2
+enum-known-verdict-2 c = search needs
 
 nack-of-requires : tie.Need-nack-of-requires
 nack-of-requires c κs = search needs
@@ -96,11 +99,12 @@ returns-2 : tie.Need-returns-2
 returns-2 c =
     let d = c .before .before .before .before in
     let e = d .before .before .before .before .before .before .before in
-    let content = e .before .before .before .before .before .before .before .before .before .before .args .content .now in
-    let known = c .before .before .before .before .before .before .before .before .acceptance .given in
+    let a = e .before .before .before .before .before .before .before .before .before .before .args in
+    let content = a .content .now in
+    let known = c .before .before .before .before .before .before .before .before .verdict .given in
     let found = sym (e .before .before .before .find .ensures) ∙ e .before .enum-told .given .1 in
     let asked = rw (take-rest content 2) at
-    (judged-as (commandOf content) _ (d .before .before .before .before .before .before .accept .ensures) (known .1))
+    (judged-as (verdict (a .reader .fast) (commandOf content) _) (d .before .before .before .before .before .before .judge .ensures) (known .1))
     in
     rw (framed-new {a = Accepted (known .0 .0)}) (rw (take-rest content 2) at (d .execute .ensures))
 
@@ -113,10 +117,10 @@ returns-3 c =
     let d = c .before .before .before .before .before .before .before .before .before .before in
     let a = d .before .before .before .before .before .before .before .before .before .before .args in
     let content = a .content .now in
-    let known = c .before .before .before .before .before .before .before .acceptance2 .given in
+    let known = c .before .before .before .before .before .before .before .verdict2 .given in
     let found = sym (d .before .before .before .find .ensures) ∙ d .before .enum-told .given .1 in
     let asked = rw (take-rest content 2) at
-    (judged-as (commandOf content) _ (c .before .before .before .before .before .before .before .before .before .accept .ensures) (known .1))
+    (judged-as (verdict (a .reader .fast) (commandOf content) _) (c .before .before .before .before .before .before .before .before .before .judge .ensures) (known .1))
     in
     rw (framed-new {a = Faulty (known .0 .0)}, ← n .ensures)
     (put-answers (a .reader) (replyContent (identifierOf content) sign (NACK (n .result))) (a .store .now) (a .out .now)
@@ -136,10 +140,10 @@ answer-frame-spec =
     sub-data
     part-data-start
     part-data-end
-    accept-requires
-    enum-known-acceptance
+    judge-requires
+    enum-known-verdict
     execute-requires
-    enum-known-acceptance-2
+    enum-known-verdict-2
     nack-of-requires
     write-nack-requires
     sending-requires-2

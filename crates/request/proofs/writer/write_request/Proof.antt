@@ -5,7 +5,7 @@ use mathlib.Core.Path.{sym, ap, _∙_}
 use borrow.Author.Needs.{needs}
 use Rattle.ground.specs.Refusals.{Tally}
 use Rattle.wire_spec.specs.Writing.{leaving}
-use Rattle.request_spec.specs.Acceptance.{isAccepted}
+use Rattle.request_spec.specs.Acceptance.{acceptance, isAccepted}
 use Rattle.request_spec.proofs.Laws.Acceptance.{judged-as}
 use Rattle.request_spec.proofs.Laws.Requesting.{request-refused, request-written}
 use Rattle.request.proofs.writer.write_request.Statement.{statement}
@@ -34,7 +34,7 @@ returns c =
     let a = c .before .before .before .before .before .before .before .before .before .args in
     c .before .before .write-point .ensures
     ∙ request-written (a .identifier) (a .code) (a .«data» .now) (a .out .now)
-    (judged-as (a .code) (a .«data» .now) (c .before .before .before .before .before .before .accept .ensures)
+    (judged-as (acceptance (a .code) (a .«data» .now)) (c .before .before .before .before .before .before .accept .ensures)
     (c .before .before .before .before .enum-told .given .1))
 
 returns-2 : tie.Need-returns-2
@@ -42,7 +42,7 @@ returns-2 c =
     let a = c .before .before .before .before .before .before .args in
     ap (λ (w : Tally). leaving w (a .out .now)) (c .refused .ensures)
     ∙ sym (request-refused (a .identifier) (a .code) (a .«data» .now) (a .out .now)
-    (ap isAccepted (judged-as (a .code) (a .«data» .now) (c .before .before .before .accept .ensures) (c .before .enum-told2 .given .1))))
+    (ap isAccepted (judged-as (acceptance (a .code) (a .«data» .now)) (c .before .before .before .accept .ensures) (c .before .enum-told2 .given .1))))
 
 pub write-request-spec : {M : Type 1} → statement M
 write-request-spec =

@@ -1,8 +1,8 @@
--- `memory::is_too_far`: only a memory that has a last command has a length to be too far.
+-- `state::is_too_far`: only a memory that has a last command has a length to be too far.
 -- Assumes nothing.
 use borrow.Author.Needs.{needs}
-use Rattle.reader.proofs.memory.is_too_far.Statement.{statement}
-use Rattle.reader.proofs.memory.is_too_far.Tie as tie
+use Rattle.reader_state.proofs.state.is_too_far.Statement.{statement}
+use Rattle.reader_state.proofs.state.is_too_far.Tie as tie
 
 enum-told : tie.Need-enum-told
 enum-told c = search needs

@@ -1,8 +1,8 @@
 -- `state::fresh_reader`: its parameters are those of delivery, and its memory says that there is none.
 -- Assumes nothing.
 use borrow.Author.Needs.{needs}
-use Rattle.reader.proofs.state.fresh_reader.Statement.{statement}
-use Rattle.reader.proofs.state.fresh_reader.Tie as tie
+use Rattle.reader_state.proofs.state.fresh_reader.Statement.{statement}
+use Rattle.reader_state.proofs.state.fresh_reader.Tie as tie
 
 fresh-parameters-requires : tie.Need-fresh-parameters-requires
 fresh-parameters-requires c κs = search needs

@@ -1,0 +1,76 @@
+-- `requests::serves`: only a write may be left undone, and its value is what follows the parameter's code.
+-- Assumes nothing.
+use mathlib.Core.Path.{_≡_, ap, subst, subst⁻¹, _∙_}
+use mathlib.Core.Bool.{true}
+use mathlib.Core.List.{List}
+use Prim.Native.Nat.{ℕ}
+use borrow.Author.Needs.{needs}
+use Rattle.ground.proofs.Laws.Lists.{take-rest}
+use Rattle.request_spec.specs.declared.command.Command.{Command}
+use Rattle.request_spec.specs.Parameters.{isValueOf}
+use Rattle.request_spec.specs.Acceptance.{FitsCommand}
+use Rattle.reader_spec.specs.Speeds.{holds}
+use Rattle.reader_state.proofs.requests.serves.Statement.{statement}
+use Rattle.reader_state.proofs.requests.serves.Tie as tie
+
+enum-known-command : tie.Need-enum-known-command
+enum-known-command c = search needs
+
+sub-holds : tie.Need-sub-holds
+sub-holds c =
+    let a = c .before .before .before .before in
+    subst (λ (k : Command). FitsCommand k (a .args .«data» .now)) (c .before .command .given .1) (a .pre) .0
+
+part-holds-start : tie.Need-part-holds-start
+part-holds-start c = sub-holds c
+
+part-holds-end : tie.Need-part-holds-end
+part-holds-end c = search needs
+
+holds-requires : tie.Need-holds-requires
+holds-requires c κs =
+    let a = c .before .before .before .before .before in
+    let known = c .before .before .command .given in
+    subst⁻¹ (λ (l : List ℕ). isValueOf (known .0 .0) l ≡ true) (take-rest (a .args .«data» .now) 1)
+    (subst (λ (k : Command). FitsCommand k (a .args .«data» .now)) (known .1) (a .pre) .1)
+
+enum-told : tie.Need-enum-told
+enum-told c = search needs
+
+enum-told-2 : tie.Need-enum-told-2
+enum-told-2 c = search needs
+
+enum-told-3 : tie.Need-enum-told-3
+enum-told-3 c = search needs
+
+returns : tie.Need-returns
+returns c =
+    let a = c .before .before .before .before .before .before .args in
+    let known = c .before .before .before .command .given in
+    simp (known .1) (c .holds .ensures ∙ ap (holds (a .fast) (known .0 .0)) (take-rest (a .«data» .now) 1))
+
+returns-2 : tie.Need-returns-2
+returns-2 c = simp (c .enum-told .given .1)
+
+returns-3 : tie.Need-returns-3
+returns-3 c = simp (c .enum-told2 .given .1)
+
+returns-4 : tie.Need-returns-4
+returns-4 c = simp (c .enum-told3 .given .1)
+
+pub serves-spec : {M : Type 1} → statement M
+serves-spec =
+    tie.close
+    (tie.spec
+    enum-known-command
+    sub-holds
+    part-holds-start
+    part-holds-end
+    holds-requires
+    enum-told
+    enum-told-2
+    enum-told-3
+    returns
+    returns-2
+    returns-3
+    returns-4)
