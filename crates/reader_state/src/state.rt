@@ -48,12 +48,10 @@ pub fn power_on(reader: Reader) -> Powered
         };
     }
     let parameters = after_power(reader.parameters);
-    let fast = reader.fast;
-    let memory = Memory::None;
     let reader = Reader {
         parameters,
-        fast,
-        memory,
+        fast: reader.fast,
+        memory: Memory::None,
     };
     Powered {
         refusal: Refusal::None,
