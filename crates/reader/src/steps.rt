@@ -113,8 +113,8 @@ fn answer_frame(
     }
     let data = &content[2..];
     let fast = reader.fast;
-    let verdict = judge(fast, code, data);
-    match verdict {
+    let acceptance = judge(fast, code, data);
+    match acceptance {
         Acceptance::Accepted(command) => execute(
             reader,
             identifier,

@@ -27,7 +27,7 @@ use Rattle.reader_spec.specs.declared.reader.Reader.{Reader}
 use Rattle.reader_spec.specs.declared.reader.Powered.{Powered}
 use Rattle.reader_spec.specs.declared.reader.Answer.{Answer}
 use Rattle.reader_spec.specs.Limits.{room, leastFront, mostFront}
-use Rattle.reader_spec.specs.Speeds.{verdict}
+use Rattle.reader_spec.specs.Speeds.{served}
 use Rattle.reader_spec.specs.Parameters.{valueOf, withValue, doneTo, afterPower}
 use Rattle.reader_spec.specs.State.{State, stateWith, stateOf, lastOf, find, badState, BadState}
 use Rattle.reader_spec.specs.Asking.{asking}
@@ -119,7 +119,7 @@ module _ (s : State) (i : Input) (lent : Buffers) where
   -- 3. the stored reply again; data is ignored, nothing changes
   abbrev pub recalled : Repeat → Answered
   recalled (Stored length) = sending s STORE length lent
-  recalled New = judged (verdict (s .fast) (commandOf (i .content)) (dataOf (i .content)))
+  recalled New = judged (served (s .fast) (commandOf (i .content)) (dataOf (i .content)))
 
   -- of a FRAME, by its identifier, command and data part
   unfoldable pub framed : Answered

@@ -107,8 +107,8 @@ asksFor i = acceptance (commandOf (i .content)) (dataOf (i .content))
 
 module _ (h : History) (i : Input) where
   -- and what this reader makes of them
-  abbrev pub verdictOn : Acceptance
-  verdictOn = servedAs (h .fast) (dataOf (i .content)) (asksFor i)
+  abbrev pub servedOf : Acceptance
+  servedOf = servedAs (h .fast) (dataOf (i .content)) (asksFor i)
 
   -- the input's identifier and command are those of the last executed command
   abbrev pub repeatsLast : Bool
@@ -131,7 +131,7 @@ module _ (h : History) (i : Input) where
 
   -- what is told after a call that was not refused
   abbrev pub nextHistoryAs : Asking → History
-  nextHistoryAs asked = cond (isFrame asked) (cond repeatsLast h (judgedHistory verdictOn)) h
+  nextHistoryAs asked = cond (isFrame asked) (cond repeatsLast h (judgedHistory servedOf)) h
 
   abbrev pub nextHistory : History
   nextHistory = nextHistoryAs (asking (i .event))
@@ -149,7 +149,7 @@ module _ (h : History) (i : Input) where
   abbrev pub dueAs : Asking → Option Reply
   dueAs Nothing = none
   dueAs Wrong = some (NACK wrongCheck)
-  dueAs Right = cond repeatsLast (Option·map (λ (e : Execution). e .reply) (h .last)) (some (judgedReply verdictOn))
+  dueAs Right = cond repeatsLast (Option·map (λ (e : Execution). e .reply) (h .last)) (some (judgedReply servedOf))
 
   abbrev pub replyDue : Option Reply
   replyDue = dueAs (asking (i .event))
@@ -163,7 +163,7 @@ module _ (h : History) (i : Input) where
 
   -- a FRAME that is executed, unless the call refuses: no repeat, accepted, and done by this reader
   abbrev pub isExecutedAs : Asking → Bool
-  isExecutedAs asked = isFrame asked && (not repeatsLast && isAccepted verdictOn)
+  isExecutedAs asked = isFrame asked && (not repeatsLast && isAccepted servedOf)
 
   abbrev pub isExecuted : Bool
   isExecuted = isExecutedAs (asking (i .event))

@@ -23,7 +23,7 @@ isAbove v = ltb 7 v
 abbrev pub runsAt : Bool → ℕ → Bool
 runsAt fast v = fast || not (isAbove v)
 
--- a speed that stands in a reader's record
+-- so the speeds that a reader has: a fast one 3..10, a slow one 3..7
 abbrev pub hasSpeed : Bool → ℕ → Bool
 hasSpeed fast v = isSpeed v && runsAt fast v
 
@@ -31,29 +31,29 @@ hasSpeed fast v = isSpeed v && runsAt fast v
 abbrev pub poweredSpeed : ℕ → ℕ
 poweredSpeed v = cond (isAbove v) 3 v
 
--- of the values that a request may write, those that this reader takes: all but a speed that it does not run at
-abbrev pub holds : Bool → Parameter → List ℕ → Bool
-holds fast Speed value = runsAt fast (getD value 0 0)
-holds fast Settings value = true
-holds fast Cell value = true
+-- a value that a parameter of this reader may have
+abbrev pub hasValue : Bool → Parameter → List ℕ → Bool
+hasValue fast Speed value = hasSpeed fast (getD value 0 0)
+hasValue fast Settings value = true
+hasValue fast Cell value = true
 
--- What a request may be is `acceptance`. What this reader does of it: all but a write of a value that it does not take. (A write's data is the
--- parameter's code and then its value.)
+-- What a request may be is `acceptance`. What this reader does of it: all but a write of a value that its parameter may not have. (A write's data
+-- is the parameter's code and then its value.)
 abbrev pub serves : Bool → Command → List ℕ → Bool
 serves fast Header «data» = true
-serves fast (Write p) «data» = holds fast p (drop 1 «data»)
+serves fast (Write p) «data» = hasValue fast p (drop 1 «data»)
 serves fast (Read p) «data» = true
 serves fast (Card card) «data» = true
 
--- step 5: and that write is NACK 3
+-- step 5: such a write is NACK 3
 abbrev pub servedAs : Bool → List ℕ → Acceptance → Acceptance
 servedAs fast «data» (Accepted command) = cond (serves fast command «data») (Accepted command) (Faulty BadData)
 servedAs fast «data» (Faulty fault) = Faulty fault
 
--- steps 4 and 5 of a reader, fast or slow, that gets this code and data
-abbrev pub verdict : Bool → ℕ → List ℕ → Acceptance
-verdict fast code «data» = servedAs fast «data» (acceptance code «data»)
+-- so what a reader, fast or slow, makes of a code and data: a command that it executes, or the NACK of step 4 or 5
+abbrev pub served : Bool → ℕ → List ℕ → Acceptance
+served fast code «data» = servedAs fast «data» (acceptance code «data»)
 
--- a write of a speed of 8, 9 or 10. `Laws.Speeds` proves that of what a request may be a slow reader does all but these, and a fast one all
+-- A write of a speed of 8, 9 or 10. `Laws.Speeds` proves that of what a request may be a slow reader does all but these, and a fast one all.
 pub data FastWrite : ℕ → List ℕ → Type 0 where
   fastWrite : {v : ℕ} → 8 ≤ v → v ≤ 10 → FastWrite 0x01 (0x02 ∷ v ∷ [])

@@ -10,7 +10,7 @@ pub(crate) const SPEED_AT_DELIVERY: u8 = 3;
 const MOST_KEPT: u8 = 7;
 
 // Whether a reader, fast or slow, runs at this speed.
-pub(crate) fn runs_at(fast: bool, speed: u8) -> bool
+fn runs_at(fast: bool, speed: u8) -> bool
     ensures { λ r. ⌜ r ≡ runsAt fast speed ⌝ }
 {
     if fast {
@@ -22,7 +22,7 @@ pub(crate) fn runs_at(fast: bool, speed: u8) -> bool
     true
 }
 
-// Whether this speed may stand in its record.
+// Whether its parameter may be this speed.
 pub(crate) fn has_speed(fast: bool, speed: u8) -> bool
     ensures { λ r. ⌜ r ≡ hasSpeed fast speed ⌝ }
 {

@@ -18,11 +18,11 @@ use Rattle.request_spec.specs.Replies.{identifierOf, commandOf, dataOf}
 use Rattle.request_spec.proofs.Laws.Acceptance.{unknown-only, unknown-code, accepts, accepted, row-known, HasRow, known-row, accepted-short}
 use Rattle.reader_spec.specs.declared.reader.Asking.the-variants.{Right}
 use Rattle.reader_spec.specs.declared.reader.Reader.{Reader}
-use Rattle.reader_spec.specs.Speeds.{servedAs, verdict, FastWrite}
+use Rattle.reader_spec.specs.Speeds.{servedAs, served, FastWrite}
 use Rattle.reader_spec.specs.State.{stateOf}
 use Rattle.reader_spec.specs.Asking.{asking}
 use Rattle.reader_spec.specs.Answering.{Answered, answerSays, isFront, judged}
-use Rattle.reader_spec.specs.Sessions.{History, repeats, repeatsLast, asksFor, verdictOn, isExecuted, Call, Done, ReaderSession}
+use Rattle.reader_spec.specs.Sessions.{History, repeats, repeatsLast, asksFor, servedOf, isExecuted, Call, Done, ReaderSession}
 use Rattle.reader_spec.proofs.Laws.Speeds.{row-done, fast-row, fast-faulty}
 use Rattle.reader_spec.proofs.Laws.Answering.{front-is, does-steps, steps-fine}
 use Rattle.reader_spec.proofs.Laws.Replies.{executed-answer}
@@ -36,8 +36,8 @@ module _ {alone : Bool} {s : Reader} {held : List ℕ} {h : History} (se : Reade
   pub asked-is : asksFor (c .input) ≡ acceptance code «data»
   asked-is = ap (λ (l : List ℕ). acceptance (commandOf l) (dataOf l)) (asks .content)
 
-  verdict-is : verdictOn h (c .input) ≡ verdict (h .fast) code «data»
-  verdict-is = ap (λ (l : List ℕ). verdict (h .fast) (commandOf l) (dataOf l)) (asks .content)
+  served-is : servedOf h (c .input) ≡ served (h .fast) code «data»
+  served-is = ap (λ (l : List ℕ). served (h .fast) (commandOf l) (dataOf l)) (asks .content)
 
   new : repeatsLast h (c .input) ≡ false
   new = ap (λ (l : List ℕ). repeats (h .last) (identifierOf l) (commandOf l)) (asks .content) ∙ asks .new
@@ -53,14 +53,14 @@ module _ {alone : Bool} {s : Reader} {held : List ℕ} {h : History} (se : Reade
       ∙ ap (λ (a : Answered). a .refusal) (does-steps (stateOf s) (c .input) (c .lent) (session-good se) (asks .well) (rw frame front))
       ∙ steps-fine (stateOf s) (c .input) (c .lent) (asking (c .input .event))
 
-  executes : {k : Acceptance} → verdict (h .fast) code «data» ≡ k → isExecuted h (c .input) ≡ isAccepted k
-  executes asked = rw (frame, new, verdict-is ∙ asked) refl
+  executes : {k : Acceptance} → served (h .fast) code «data» ≡ k → isExecuted h (c .input) ≡ isAccepted k
+  executes asked = rw (frame, new, served-is ∙ asked) refl
 
-  judges : {k : Acceptance} → verdict (h .fast) code «data» ≡ k → length «data» ≤ mostData
+  judges : {k : Acceptance} → served (h .fast) code «data» ≡ k → length «data» ≤ mostData
       → answerSays (c .answer) (c .left) ≡ judged (stateOf s) (c .input) (c .lent) k
   judges {k} asked short =
       let framed = call-framed se c (done short) frame in
-      rw (new, verdict-is ∙ asked) at framed
+      rw (new, served-is ∙ asked) at framed
 
   -- a request of the paper's table is executed by a reader for which it repeats nothing, so by a fresh one, if it has the speed that is written
   pub request-executed : {command : Command} → Accepts code «data» command → (h .fast ≡ false → FastWrite code «data» → ⊥)
@@ -72,26 +72,26 @@ module _ {alone : Bool} {s : Reader} {held : List ℕ} {h : History} (se : Reade
         asked = asked-is ∙ accepted row;
         done = fine;
         does = executes does;
-        sends = session-replies se c fine (asks .event) new (verdict-is ∙ does);
+        sends = session-replies se c fine (asks .event) new (served-is ∙ does);
         reply = executed-answer (h .value) command (c .input .header) (c .input .antenna);
-        goesOn = rw (frame, new, verdict-is ∙ does) at (session-on se c fine);
+        goesOn = rw (frame, new, served-is ∙ does) at (session-on se c fine);
       }
 
-  faulty-nacked : (fault : Fault) → verdict (h .fast) code «data» ≡ Faulty fault → length «data» ≤ mostData → RequestNacked c (nackOf fault)
+  faulty-nacked : (fault : Fault) → served (h .fast) code «data» ≡ Faulty fault → length «data» ≤ mostData → RequestNacked c (nackOf fault)
   faulty-nacked fault asked short =
       let fine = done short in
       let judged = judges asked short in
       record {
         done = fine;
         idle = executes asked;
-        sends = session-replies se c fine (asks .event) new (verdict-is ∙ asked);
+        sends = session-replies se c fine (asks .event) new (served-is ∙ asked);
         unchanged = record { state = ap (λ (a : Answered). a .state) judged; store = ap (λ (a : Answered). a .left .store) judged };
       }
 
   -- else, by a slow reader, it is answered NACK 3
   pub speed-nacked : h .fast ≡ false → FastWrite code «data» → RequestNacked c 3
   speed-nacked slow write =
-      faulty-nacked BadData (ap (λ (fast : Bool). verdict fast code «data») slow ∙ fast-faulty write) (accepted-short (fast-row write))
+      faulty-nacked BadData (ap (λ (fast : Bool). served fast code «data») slow ∙ fast-faulty write) (accepted-short (fast-row write))
 
   -- any other, if a frame can carry it, is answered NACK 2 where no row has its code
   pub code-nacked : ((other : List ℕ) (command : Command) → Accepts code other command → ⊥) → length «data» ≤ mostData → RequestNacked c 2

@@ -22,7 +22,7 @@ use Rattle.reader_spec.specs.declared.reader.Parameters.{Parameters}
 use Rattle.reader_spec.specs.declared.reader.Reader.{Reader}
 use Rattle.reader_spec.specs.declared.reader.Answer.{Answer}
 use Rattle.reader_spec.specs.Limits.{leastFront}
-use Rattle.reader_spec.specs.Speeds.{verdict}
+use Rattle.reader_spec.specs.Speeds.{served}
 use Rattle.reader_spec.specs.Parameters.{valueOf, doneTo}
 use Rattle.reader_spec.specs.Replies.{replyContent, replyTo}
 use Rattle.reader_spec.specs.State.{State, stateWith, stateOf, lastOf, find}
@@ -63,7 +63,7 @@ module _ (reader : Reader) (identifier code : ℕ) («data» header antenna stor
 
 -- a frame that repeats nothing, by what this reader makes of it: steps 4 to 6
 pub framed-new : {a : Acceptance} (s : State) (i : Input) (lent : Buffers) → find (s .last) (identifierOf (i .content)) (commandOf (i .content)) ≡ New
-    → verdict (s .fast) (commandOf (i .content)) (dataOf (i .content)) ≡ a
+    → served (s .fast) (commandOf (i .content)) (dataOf (i .content)) ≡ a
     → framed s i lent ≡ judged s i lent a
 framed-new s i lent found asked = framed-by s i lent found ∙ ap (judged s i lent) asked
 

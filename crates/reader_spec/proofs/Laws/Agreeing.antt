@@ -26,13 +26,13 @@ use Rattle.reader_spec.specs.declared.reader.Asking.{Asking}
 use Rattle.reader_spec.specs.declared.reader.Asking.the-variants.{Nothing, Wrong, Right}
 use Rattle.reader_spec.specs.declared.reader.Repeat.the-variants.{New, Stored}
 use Rattle.reader_spec.specs.Limits.{room}
-use Rattle.reader_spec.specs.Speeds.{hasSpeed, serves, verdict}
+use Rattle.reader_spec.specs.Speeds.{hasSpeed, serves, served}
 use Rattle.reader_spec.specs.Parameters.{freshParameters, valueOf, afterPower}
 use Rattle.reader_spec.specs.State.{Last, lastOf, State, stateWith, freshState, find, tooFar, badState}
 use Rattle.reader_spec.specs.Replies.{replyImage, replyTo}
 use Rattle.reader_spec.specs.Sending.{OUT, STORE, Buffers, sent}
 use Rattle.reader_spec.specs.Answering.{Input, Answered, LentWell, sending, nacked, executed, judged, recalled, framed, stepped}
-use Rattle.reader_spec.specs.Sessions.{Execution, imageOf, History, freshValues, begun, poweredValue, forgetting, repeats, isFrame, repeatsLast, asksFor, verdictOn, judgedHistory, nextHistoryAs, judgedReply, bytesOf, dueAs, StoreKept}
+use Rattle.reader_spec.specs.Sessions.{Execution, imageOf, History, freshValues, begun, poweredValue, forgetting, repeats, isFrame, repeatsLast, asksFor, servedOf, judgedHistory, nextHistoryAs, judgedReply, bytesOf, dueAs, StoreKept}
 use Rattle.reader_spec.proofs.Laws.Speeds.{powered-has, served-was, done-fits}
 use Rattle.reader_spec.proofs.Laws.Parameters.{value-powered, powered-sized}
 use Rattle.reader_spec.proofs.Laws.Replies.{point-room}
@@ -153,13 +153,13 @@ recalledAs s lent (some e) = sending s STORE (length (imageOf e)) lent
 
 module _ (s : State) (i : Input) (lent : Buffers) where
   pub framed-told : (h : History) → s .last ≡ memoryOf (h .last) → s .fast ≡ h .fast
-      → framed s i lent ≡ cond (repeatsLast h i) (recalledAs s lent (h .last)) (judged s i lent (verdictOn h i))
+      → framed s i lent ≡ cond (repeatsLast h i) (recalledAs s lent (h .last)) (judged s i lent (servedOf h i))
   framed-told h remembered same =
       framed-by s i lent (ap (λ (m : Option Last). find m (identifierOf (i .content)) (commandOf (i .content))) remembered) ∙ of (h .last)
       ∙ ap (λ (fast : Bool). cond (repeatsLast h i) (recalledAs s lent (h .last)) (judgedBy fast)) same
     where
       judgedBy : Bool → Answered
-      judgedBy fast = judged s i lent (verdict fast (commandOf (i .content)) (dataOf (i .content)))
+      judgedBy fast = judged s i lent (served fast (commandOf (i .content)) (dataOf (i .content)))
 
       of : (l : Option Execution) → recalled s i lent (find (memoryOf l) (identifierOf (i .content)) (commandOf (i .content)))
           ≡ cond (repeats l (identifierOf (i .content)) (commandOf (i .content))) (recalledAs s lent l) (judgedBy (s .fast))
@@ -197,7 +197,7 @@ module _ (alone : Bool) (s : State) (i : Input) (lent : Buffers) (whole : length
         → StepAgrees alone (judgedHistory known i (Accepted command))
         (bytesOf (i .content) (some (replyTo (valueOf (s .parameters)) command (i .header) (i .antenna)))) false
         (executed s i lent command)
-    executed-agrees command carried served a =
+    executed-agrees command carried able a =
         let value = valueOf (s .parameters) in
         let reply = replyTo value command (i .header) (i .antenna) in
         let e : Execution = record { identifier = identifierOf (i .content); code = commandOf (i .content); reply = reply } in
@@ -207,7 +207,7 @@ module _ (alone : Bool) (s : State) (i : Input) (lent : Buffers) (whole : length
             values = done-values (s .parameters) (dataOf (i .content)) command carried;
             sized = done-sized value (a .sized) (dataOf (i .content)) command carried;
             fast = refl;
-            speed = done-speed (s .parameters) (dataOf (i .content)) (s .fast) command carried served (a .speed);
+            speed = done-speed (s .parameters) (dataOf (i .content)) (s .fast) command able (a .speed);
             memory = refl;
             fits = reply-fits value (a .sized) (i .header) (i .antenna) command whole (well .0);
             stored = stored-onto alone e (lent .store);
@@ -215,7 +215,7 @@ module _ (alone : Bool) (s : State) (i : Input) (lent : Buffers) (whole : length
           sends = λ _. sent-out (imageOf e) (onto (imageOf e) (lent .store)) (lent .out);
         }
 
-    judged-agrees : (k : Acceptance) → verdict (s .fast) (commandOf (i .content)) (dataOf (i .content)) ≡ k
+    judged-agrees : (k : Acceptance) → served (s .fast) (commandOf (i .content)) (dataOf (i .content)) ≡ k
         → Agrees alone s (lent .store) known
         → StepAgrees alone (judgedHistory known i k) (bytesOf (i .content) (some (judgedReply known i k))) false (judged s i lent k)
     judged-agrees (Faulty fault) asked a = nack-agrees (identifierOf (i .content)) (nackOf fault) a
@@ -249,7 +249,7 @@ module _ (alone : Bool) (s : State) (i : Input) (lent : Buffers) (whole : length
   frame-agrees : (h : History) → Agrees alone s (lent .store) h
       → StepAgrees alone (nextHistoryAs h i Right) (bytesOf (i .content) (dueAs h i Right)) (repeatsLast h i) (framed s i lent)
   frame-agrees h a =
-      let k = verdictOn h i in
+      let k = servedOf h i in
       subst⁻¹ (StepAgrees alone (nextHistoryAs h i Right) (bytesOf (i .content) (dueAs h i Right)) (repeatsLast h i))
       (framed-told s i lent h (a .memory) (a .fast))
       (by-test
@@ -258,15 +258,15 @@ module _ (alone : Bool) (s : State) (i : Input) (lent : Buffers) (whole : length
       (cond t (recalledAs s lent (h .last)) (judged s i lent k)))
       (repeatsLast h i)
       (λ same. recalled-agrees (h .value) (h .fast) (h .last) same a)
-      (λ _. subst P told (judged-agrees (h .last) (verdictOn (known (h .last)) i) refl (subst⁻¹ (Agrees alone s (lent .store)) told a))))
+      (λ _. subst P told (judged-agrees (h .last) (servedOf (known (h .last)) i) refl (subst⁻¹ (Agrees alone s (lent .store)) told a))))
     where
       told : known (h .last) ≡ h
       told = λ j. record { value = a .values j; fast = a .fast j; last = h .last }
 
       P : History → Type 0
       P g =
-          StepAgrees alone (judgedHistory g i (verdictOn g i)) (bytesOf (i .content) (some (judgedReply g i (verdictOn g i)))) false
-          (judged s i lent (verdictOn g i))
+          StepAgrees alone (judgedHistory g i (servedOf g i)) (bytesOf (i .content) (some (judgedReply g i (servedOf g i)))) false
+          (judged s i lent (servedOf g i))
 
   -- each step
   pub step-agrees : (asked : Asking) (h : History) → Agrees alone s (lent .store) h

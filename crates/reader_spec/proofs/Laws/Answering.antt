@@ -27,7 +27,7 @@ use Rattle.reader_spec.specs.declared.reader.Asking.the-variants.{Nothin
 use Rattle.reader_spec.specs.declared.reader.Repeat.{Repeat}
 use Rattle.reader_spec.specs.declared.reader.Repeat.the-variants.{New, Stored}
 use Rattle.reader_spec.specs.Limits.{room, leastFront, mostFront}
-use Rattle.reader_spec.specs.Speeds.{isAbove, verdict}
+use Rattle.reader_spec.specs.Speeds.{isAbove, served}
 use Rattle.reader_spec.specs.Parameters.{withValue, afterPower}
 use Rattle.reader_spec.specs.State.{State, stateWith, find, badState, BadState}
 use Rattle.reader_spec.specs.Asking.{asking}
@@ -250,7 +250,7 @@ module _ (s : State) (i : Input) (lent : Buffers) where
 
   recalled-kept : (k : Repeat) → Kept (recalled s i lent k)
   recalled-kept (Stored length) = record { none = refl; store = refl; out = refl }
-  recalled-kept New = judged-kept (verdict (s .fast) (commandOf (i .content)) (dataOf (i .content)))
+  recalled-kept New = judged-kept (served (s .fast) (commandOf (i .content)) (dataOf (i .content)))
 
   step-kept : (asked : Asking) → Kept (stepped s i lent asked)
   unfolding framed

@@ -1,12 +1,12 @@
 -- What a command that is executed does to the parameters, and that its reply fits a frame.
 -- Assumes nothing.
 use mathlib.Core.Path.{_≡_, refl}
-use mathlib.Core.Bool.{Bool, true, and-eq-true-iff}
+use mathlib.Core.Bool.{Bool, true}
 use mathlib.Core.List.{List}
 use Prim.Native.Nat.{ℕ, _≤_}
 use native.Mathlib.Omega.{arith}
 use lib.Dec.{eqb}
-use lib.ListN.{length, getD, drop}
+use lib.ListN.{length, drop}
 use Rattle.ground.proofs.Laws.Choice.{cond-elim}
 use Rattle.link_spec.specs.Limits.{mostData}
 use Rattle.request_spec.specs.declared.parameter.Parameter.{Parameter}
@@ -14,13 +14,13 @@ use Rattle.request_spec.specs.declared.parameter.Parameter.the-variants.{Speed,
 use Rattle.request_spec.specs.declared.command.Command.{Command}
 use Rattle.request_spec.specs.declared.command.Command.the-variants as Command
 use Rattle.request_spec.specs.Limits.{mostAntenna, headerLength}
-use Rattle.request_spec.specs.Parameters.{parameterCode, lengthOf, isSpeed}
+use Rattle.request_spec.specs.Parameters.{parameterCode, lengthOf}
 use Rattle.request_spec.specs.Cards.{isCode}
 use Rattle.request_spec.specs.Acceptance.{FitsCommand}
 use Rattle.request_spec.specs.Replies.{Reply, dataIn}
-use Rattle.request_spec.proofs.Laws.Parameters.{value-sizes, value-within, value-length, lengthOf-most, same-code}
+use Rattle.request_spec.proofs.Laws.Parameters.{value-sizes, value-length, lengthOf-most, same-code}
 use Rattle.reader_spec.specs.declared.reader.Parameters.{Parameters}
-use Rattle.reader_spec.specs.Speeds.{runsAt, hasSpeed, serves}
+use Rattle.reader_spec.specs.Speeds.{hasSpeed, serves}
 use Rattle.reader_spec.specs.Parameters.{valueOf, doneTo}
 use Rattle.reader_spec.specs.Replies.{replyTo}
 use Rattle.reader_spec.specs.Sessions.{valuesAfter}
@@ -37,17 +37,14 @@ module _ (ps : Parameters) («data» : List ℕ) where
   done-values (Command.Card card) carried = refl
 
   -- the speed is one that the reader has
-  pub done-speed : (fast : Bool) (command : Command) → FitsCommand command «data» → serves fast command «data» ≡ true
-      → hasSpeed fast (ps .speed) ≡ true
+  pub done-speed : (fast : Bool) (command : Command) → serves fast command «data» ≡ true → hasSpeed fast (ps .speed) ≡ true
       → hasSpeed fast (doneTo ps command «data» .speed) ≡ true
-  done-speed fast Command.Header carried served good = good
-  done-speed fast (Command.Write Speed) carried served good =
-      let v = getD (drop 1 «data») 0 0 in
-      and-eq-true-iff (isSpeed v) (runsAt fast v) .1 (value-within Speed (drop 1 «data») (carried .1), served)
-  done-speed fast (Command.Write Settings) carried served good = good
-  done-speed fast (Command.Write Cell) carried served good = good
-  done-speed fast (Command.Read p) carried served good = good
-  done-speed fast (Command.Card card) carried served good = good
+  done-speed fast Command.Header able good = good
+  done-speed fast (Command.Write Speed) able good = able
+  done-speed fast (Command.Write Settings) able good = good
+  done-speed fast (Command.Write Cell) able good = good
+  done-speed fast (Command.Read p) able good = good
+  done-speed fast (Command.Card card) able good = good
 
 module _ (value : Parameter → List ℕ) (sized : (p : Parameter) → length (value p) ≡ lengthOf p) where
   pub done-sized : («data» : List ℕ) (command : Command) → FitsCommand command «data» → (q : Parameter)

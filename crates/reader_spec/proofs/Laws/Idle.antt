@@ -20,7 +20,7 @@ use Rattle.reader_spec.specs.State.{State, stateOf}
 use Rattle.reader_spec.specs.Asking.{asking}
 use Rattle.reader_spec.specs.Sending.{Buffers}
 use Rattle.reader_spec.specs.Answering.{Input, Answered, answerSays, judged, stepped}
-use Rattle.reader_spec.specs.Sessions.{Execution, History, repeatsLast, verdictOn, judgedHistory, nextHistoryAs, nextHistory, isExecutedAs, isExecuted, remembers, StoreKept, Call, Done, ReaderSession, called, Idle, rests, passes}
+use Rattle.reader_spec.specs.Sessions.{Execution, History, repeatsLast, servedOf, judgedHistory, nextHistoryAs, nextHistory, isExecutedAs, isExecuted, remembers, StoreKept, Call, Done, ReaderSession, called, Idle, rests, passes}
 use Rattle.reader_spec.specs.Promises.{Unchanged, Same}
 use Rattle.reader_spec.proofs.Laws.Answering.{row-elim, steps-fine}
 use Rattle.reader_spec.proofs.Laws.Agreeing.{memoryOf, recalledAs, framed-told}
@@ -36,8 +36,8 @@ executes-nothing-as : (h : History) (i : Input) (asked : Asking) → isExecutedA
 executes-nothing-as h i Nothing idle = refl
 executes-nothing-as h i Wrong idle = refl
 executes-nothing-as h i Right idle =
-    by-test (λ (t : Bool). (not t && isAccepted (verdictOn h i)) ≡ false → cond t h (judgedHistory h i (verdictOn h i)) ≡ h)
-    (repeatsLast h i) (λ _ _. refl) (λ _ n. judged-nothing h i (verdictOn h i) n) idle
+    by-test (λ (t : Bool). (not t && isAccepted (servedOf h i)) ≡ false → cond t h (judgedHistory h i (servedOf h i)) ≡ h)
+    (repeatsLast h i) (λ _ _. refl) (λ _ n. judged-nothing h i (servedOf h i) n) idle
 
 pub executes-nothing : (h : History) (i : Input) → isExecuted h i ≡ false → nextHistory h i ≡ h
 executes-nothing h i = executes-nothing-as h i (asking (i .event))
@@ -60,9 +60,9 @@ module _ (s : State) (i : Input) (lent : Buffers) where
   step-keeps Right h remembered same idle =
       subst⁻¹ (Unchanged s lent) (framed-told s i lent h remembered same)
       (by-test
-      (λ (t : Bool). (not t && isAccepted (verdictOn h i)) ≡ false
-      → Unchanged s lent (cond t (recalledAs s lent (h .last)) (judged s i lent (verdictOn h i))))
-      (repeatsLast h i) (λ _ _. recalled-keeps (h .last)) (λ _ n. judged-keeps (verdictOn h i) n) idle)
+      (λ (t : Bool). (not t && isAccepted (servedOf h i)) ≡ false
+      → Unchanged s lent (cond t (recalledAs s lent (h .last)) (judged s i lent (servedOf h i))))
+      (repeatsLast h i) (λ _ _. recalled-keeps (h .last)) (λ _ n. judged-keeps (servedOf h i) n) idle)
 
 pub call-keeps : {among alone : Bool} {h : History} {s : Reader} {held : List ℕ} → ReaderSession among s held h → (c : Call alone h s held)
     → (Done c → isExecuted h (c .input) ≡ false)

@@ -25,7 +25,7 @@ use Rattle.reader_spec.specs.Asking.{asking}
 use Rattle.reader_spec.specs.Replies.{replyImage, replyTo}
 use Rattle.reader_spec.specs.Sending.{sent}
 use Rattle.reader_spec.specs.Answering.{PoweredOn, powering, poweredOn, Input, Answered, LentWell, answerSays, executed, judged, stepped}
-use Rattle.reader_spec.specs.Sessions.{Execution, imageOf, History, begun, poweredBy, repeats, isFrame, bytesOf, repeatsLast, asksFor, verdictOn, nextHistory, nextHistoryBy, judgedReply, toSend, isRepeat, isExecuted, remembers, Call, Done, bytesSent, ReaderSession, begins, powered, called}
+use Rattle.reader_spec.specs.Sessions.{Execution, imageOf, History, begun, poweredBy, repeats, isFrame, bytesOf, repeatsLast, asksFor, servedOf, nextHistory, nextHistoryBy, judgedReply, toSend, isRepeat, isExecuted, remembers, Call, Done, bytesSent, ReaderSession, begins, powered, called}
 use Rattle.reader_spec.specs.Promises.{Recalls}
 use Rattle.reader_spec.proofs.Laws.Speeds.{served-was}
 use Rattle.reader_spec.proofs.Laws.State.{readerWith, state-back}
@@ -100,7 +100,7 @@ module _ {alone : Bool} {s : Reader} {held : List ℕ} {h : History} (se : Reade
     check-nacked is = rw is at session-sends (λ again. absurd (true≢false (sym again)))
 
     -- to a FRAME that repeats nothing the reply to what it asks for, and NACK 2 or 3 where it is not accepted
-    pub session-replies : {k : Acceptance} → c .input .event ≡ FRAME → repeatsLast h (c .input) ≡ false → verdictOn h (c .input) ≡ k
+    pub session-replies : {k : Acceptance} → c .input .event ≡ FRAME → repeatsLast h (c .input) ≡ false → servedOf h (c .input) ≡ k
         → bytesSent c
         ≡ replyImage (identifierOf (c .input .content)) (commandOf (c .input .content)) (judgedReply h (c .input) k)
     session-replies is new asked = rw (is, new, asked) at session-sends (λ again. absurd (true≢false (sym again)))
@@ -118,7 +118,7 @@ module _ {alone : Bool} {s : Reader} {held : List ℕ} {h : History} (se : Reade
 
     module _ (asks : asking (c .input .event) ≡ Right) where
       pub call-framed : answerSays (c .answer) (c .left)
-          ≡ cond (repeatsLast h (c .input)) (recalledAs (stateOf s) (c .lent) (h .last)) (judged (stateOf s) (c .input) (c .lent) (verdictOn h (c .input)))
+          ≡ cond (repeatsLast h (c .input)) (recalledAs (stateOf s) (c .lent) (h .last)) (judged (stateOf s) (c .input) (c .lent) (servedOf h (c .input)))
       call-framed =
           call-steps .0 ∙ ap (stepped (stateOf s) (c .input) (c .lent)) asks
           ∙ framed-told (stateOf s) (c .input) (c .lent) h (session-agrees se .memory) (session-agrees se .fast)
@@ -144,9 +144,9 @@ module _ {alone : Bool} {s : Reader} {held : List ℕ} {h : History} (se : Reade
 
     -- a command that is executed: the reply stands in both buffers
     module _ (does : isExecuted h (c .input) ≡ true) where
-      abbrev parts : (isFrame (asking (c .input .event)) ≡ true) × ((not (repeatsLast h (c .input)) && isAccepted (verdictOn h (c .input))) ≡ true)
+      abbrev parts : (isFrame (asking (c .input .event)) ≡ true) × ((not (repeatsLast h (c .input)) && isAccepted (servedOf h (c .input))) ≡ true)
       parts =
-          and-eq-true-iff (isFrame (asking (c .input .event))) (not (repeatsLast h (c .input)) && isAccepted (verdictOn h (c .input))) .0 does
+          and-eq-true-iff (isFrame (asking (c .input .event))) (not (repeatsLast h (c .input)) && isAccepted (servedOf h (c .input))) .0 does
 
       pub is-frame : asking (c .input .event) ≡ Right
       is-frame = of (asking (c .input .event)) (parts .0)
@@ -159,23 +159,23 @@ module _ {alone : Bool} {s : Reader} {held : List ℕ} {h : History} (se : Reade
       pub is-new : repeatsLast h (c .input) ≡ false
       is-new =
           by-test (λ (t : Bool). not t ≡ true → t ≡ false) (repeatsLast h (c .input)) (λ _ never. absurd (false≢true never)) (λ _ _. refl)
-          (and-eq-true-iff (not (repeatsLast h (c .input))) (isAccepted (verdictOn h (c .input))) .0 (parts .1) .0)
+          (and-eq-true-iff (not (repeatsLast h (c .input))) (isAccepted (servedOf h (c .input))) .0 (parts .1) .0)
 
       no-repeat : isRepeat h (c .input) ≡ false
       no-repeat =
           ap (λ (t : Bool). isFrame (asking (c .input .event)) && t) is-new ∙ and-false (isFrame (asking (c .input .event)))
 
-      is-done : (command : Command) × (verdictOn h (c .input) ≡ Accepted command)
+      is-done : (command : Command) × (servedOf h (c .input) ≡ Accepted command)
       is-done =
-          of (verdictOn h (c .input)) refl
-          (and-eq-true-iff (not (repeatsLast h (c .input))) (isAccepted (verdictOn h (c .input))) .0 (parts .1) .1)
+          of (servedOf h (c .input)) refl
+          (and-eq-true-iff (not (repeatsLast h (c .input))) (isAccepted (servedOf h (c .input))) .0 (parts .1) .1)
         where
-          of : (k : Acceptance) → verdictOn h (c .input) ≡ k → isAccepted k ≡ true → (command : Command) × (verdictOn h (c .input) ≡ Accepted command)
+          of : (k : Acceptance) → servedOf h (c .input) ≡ k → isAccepted k ≡ true → (command : Command) × (servedOf h (c .input) ≡ Accepted command)
           of (Accepted command) is fine = (command, is)
           of (Faulty fault) is fine = absurd (false≢true fine)
 
       -- so the reader does what it may be asked for
-      pub does-asked : verdictOn h (c .input) ≡ asksFor (c .input)
+      pub does-asked : servedOf h (c .input) ≡ asksFor (c .input)
       does-asked = is-done .1 ∙ sym (served-was (h .fast) (dataOf (c .input .content)) (asksFor (c .input)) (is-done .1) .0)
 
       pub is-accepted : (command : Command) × (asksFor (c .input) ≡ Accepted command)

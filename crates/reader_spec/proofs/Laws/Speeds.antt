@@ -2,13 +2,13 @@
 -- all but a write of 8, 9 or 10.
 -- Assumes nothing.
 use mathlib.Core.Path.{_≡_, refl, ap, subst, _∙_}
-use mathlib.Core.Bool.{Bool, true, false, cond, not, _&&_, _||_, or-true, true≢false, false≢true, and-eq-true-iff}
+use mathlib.Core.Bool.{Bool, true, false, cond, not, _&&_, _||_, and-false, false≢true, and-eq-true-iff}
 use mathlib.Core.List.{List, [], _∷_}
 use Prim.Native.Nat.{ℕ, _≤_}
 use native.Mathlib.Omega.{arith}
 use lib.Dec.{ltb}
 use borrow.Author.Tests.{ltb-true, ltb-false, lt-ltb, le-ltb}
-use Rattle.ground.proofs.Laws.Choice.{by-test, between-true, no-case}
+use Rattle.ground.proofs.Laws.Choice.{by-test, between-true, between-is, no-case}
 use Rattle.request_spec.specs.declared.parameter.Parameter.the-variants.{Speed, Settings, Cell}
 use Rattle.request_spec.specs.declared.command.Command.{Command}
 use Rattle.request_spec.specs.declared.command.Command.the-variants.{Write}
@@ -19,7 +19,7 @@ use Rattle.request_spec.specs.Parameters.{isSpeed, ofSpeed}
 use Rattle.request_spec.specs.Acceptance as table
 use Rattle.request_spec.specs.Acceptance.{acceptance, FitsCommand, Accepts}
 use Rattle.request_spec.proofs.Laws.Acceptance.{accepts, accepted, fits-command}
-use Rattle.reader_spec.specs.Speeds.{isAbove, runsAt, hasSpeed, poweredSpeed, serves, servedAs, verdict, FastWrite, fastWrite}
+use Rattle.reader_spec.specs.Speeds.{isAbove, runsAt, hasSpeed, poweredSpeed, serves, servedAs, served, FastWrite, fastWrite}
 
 -- ---- the speeds that a reader has
 
@@ -71,7 +71,7 @@ module _ (fast : Bool) («data» : List ℕ) where
       (serves fast other «data») (λ _ does is. (is, subst Serves is does)) (λ _ _ is. no-case (cc is)) refl is
 
 -- so its data is that of the command
-pub done-fits : (fast : Bool) (code : ℕ) («data» : List ℕ) {command : Command} → verdict fast code «data» ≡ Accepted command
+pub done-fits : (fast : Bool) (code : ℕ) («data» : List ℕ) {command : Command} → served fast code «data» ≡ Accepted command
     → FitsCommand command «data»
 done-fits fast code «data» done = fits-command (accepts code «data» (served-was fast «data» (acceptance code «data») done .0))
 
@@ -80,9 +80,13 @@ pub row-served : (fast : Bool) {code : ℕ} {«data» : List ℕ} {command : Com
     → (fast ≡ false → FastWrite code «data» → ⊥)
     → serves fast command «data» ≡ true
 row-served fast table.header few = refl
-row-served true (table.write Speed value (ofSpeed least most)) few = refl
-row-served false (table.write Speed value (ofSpeed {v} least most)) few =
-    by-test (λ (t : Bool). not t ≡ true) (isAbove v) (λ above. absurd (few refl (fastWrite (ltb-true 7 v above) most))) (λ _. refl)
+row-served fast (table.write Speed value (ofSpeed {v} least most)) few =
+    and-eq-true-iff (isSpeed v) (runsAt fast v) .1 (between-is 3 10 v least most, runs fast few)
+  where
+    runs : (fast : Bool) → (fast ≡ false → FastWrite 0x01 (0x02 ∷ v ∷ []) → ⊥) → runsAt fast v ≡ true
+    runs true few = refl
+    runs false few =
+        by-test (λ (t : Bool). not t ≡ true) (isAbove v) (λ above. absurd (few refl (fastWrite (ltb-true 7 v above) most))) (λ _. refl)
 row-served fast (table.write Settings value fits) few = refl
 row-served fast (table.write Cell value fits) few = refl
 row-served fast (table.read p) few = refl
@@ -92,7 +96,7 @@ row-served fast table.motorola few = refl
 
 pub row-done : (fast : Bool) {code : ℕ} {«data» : List ℕ} {command : Command} → Accepts code «data» command
     → (fast ≡ false → FastWrite code «data» → ⊥)
-    → verdict fast code «data» ≡ Accepted command
+    → served fast code «data» ≡ Accepted command
 row-done fast {«data» = «data»} {command = command} row few =
     ap (servedAs fast «data») (accepted row)
     ∙ ap (λ (t : Bool). cond t (Accepted command) (Faulty BadData)) (row-served fast row few)
@@ -101,6 +105,6 @@ row-done fast {«data» = «data»} {command = command} row few =
 pub fast-row : {code : ℕ} {«data» : List ℕ} → FastWrite code «data» → Accepts code «data» (Write Speed)
 fast-row (fastWrite {v} least most) = table.write Speed (v ∷ []) (ofSpeed {v = v} (omega (arith, least)) most)
 
-pub fast-faulty : {code : ℕ} {«data» : List ℕ} → FastWrite code «data» → verdict false code «data» ≡ Faulty BadData
+pub fast-faulty : {code : ℕ} {«data» : List ℕ} → FastWrite code «data» → served false code «data» ≡ Faulty BadData
 fast-faulty (fastWrite {v} least most) =
-    ap (servedAs false (0x02 ∷ v ∷ [])) (accepted (fast-row (fastWrite least most))) ∙ rw (lt-ltb 7 v least)
+    ap (servedAs false (0x02 ∷ v ∷ [])) (accepted (fast-row (fastWrite least most))) ∙ rw (lt-ltb 7 v least, and-false (isSpeed v))

@@ -24,7 +24,7 @@ use Rattle.reader_spec.specs.declared.reader.Reader.{Reader}
 use Rattle.reader_spec.specs.Asking.{asking}
 use Rattle.reader_spec.specs.Replies.{replyImage, replyTo}
 use Rattle.reader_spec.specs.Answering.{Input}
-use Rattle.reader_spec.specs.Sessions.{History, poweredValue, poweredBy, repeatsLast, asksFor, verdictOn, valuesAfter, judgedHistory, nextHistoryAs, nextHistory, isExecuted, Call, Done, bytesSent, ReaderSession, powered, called, Unwritten, still, power, other, leftOf}
+use Rattle.reader_spec.specs.Sessions.{History, poweredValue, poweredBy, repeatsLast, asksFor, servedOf, valuesAfter, judgedHistory, nextHistoryAs, nextHistory, isExecuted, Call, Done, bytesSent, ReaderSession, powered, called, Unwritten, still, power, other, leftOf}
 use Rattle.reader_spec.specs.Promises.{KeptValue}
 use Rattle.reader_spec.proofs.Laws.Speeds.{served-was}
 use Rattle.reader_spec.proofs.Laws.Parameters.{powered-twice}
@@ -52,7 +52,7 @@ module _ (p : Parameter) (h : History) (i : Input) where
   value-kept Wrong not = refl
   value-kept Right not =
       cond-elim (λ (k : History). k .value p ≡ h .value p) (repeatsLast h i) (λ _. refl)
-      (λ _. judged-kept (verdictOn h i) (λ does. not (served-was (h .fast) (dataOf (i .content)) (asksFor i) does .0)))
+      (λ _. judged-kept (servedOf h i) (λ does. not (served-was (h .fast) (dataOf (i .content)) (asksFor i) does .0)))
 
   next-kept : (isExecuted h i ≡ true → asksFor i ≡ Accepted (Write p) → ⊥) → nextHistory h i .value p ≡ h .value p
   next-kept idle =

@@ -8,7 +8,7 @@ use Rattle.request_spec.specs.declared.command.Acceptance.the-variants.{Accepte
 use Rattle.request_spec.specs.Replies.{NACK, sign, identifierOf, commandOf}
 use Rattle.request_spec.proofs.Laws.Acceptance.{judged-as}
 use Rattle.reader_spec.specs.declared.reader.Repeat.the-variants.{Stored}
-use Rattle.reader_spec.specs.Speeds.{verdict}
+use Rattle.reader_spec.specs.Speeds.{served}
 use Rattle.reader_spec.specs.Replies.{replyContent}
 use Rattle.reader_spec.proofs.Laws.Speeds.{done-fits}
 use Rattle.reader_spec.proofs.Laws.Answering.{framed-by}
@@ -64,8 +64,8 @@ part-data-end c = search needs
 judge-requires : tie.Need-judge-requires
 judge-requires c κs = search needs
 
-enum-known-verdict : tie.Need-enum-known-verdict
-enum-known-verdict c = search needs
+enum-known-acceptance : tie.Need-enum-known-acceptance
+enum-known-acceptance c = search needs
 
 execute-requires : tie.Need-execute-requires
 execute-requires c κs =
@@ -73,12 +73,12 @@ execute-requires c κs =
     let a = d .before .before .before .before .before .before .before .before .before .before .before in
     let code = commandOf (a .args .content .now) in (
       done-fits (a .args .reader .fast) code _
-          (judged-as (verdict (a .args .reader .fast) code _) (d .judge .ensures) (c .before .before .before .verdict .given .1)),
+          (judged-as (served (a .args .reader .fast) code _) (d .judge .ensures) (c .before .before .before .acceptance .given .1)),
       a .pre .1,
     )
 
-enum-known-verdict-2 : tie.Need-enum-known-verdict-2
-enum-known-verdict-2 c = search needs
+enum-known-acceptance-2 : tie.Need-enum-known-acceptance-2
+enum-known-acceptance-2 c = search needs
 
 nack-of-requires : tie.Need-nack-of-requires
 nack-of-requires c κs = search needs
@@ -101,10 +101,10 @@ returns-2 c =
     let e = d .before .before .before .before .before .before .before in
     let a = e .before .before .before .before .before .before .before .before .before .before .args in
     let content = a .content .now in
-    let known = c .before .before .before .before .before .before .before .before .verdict .given in
+    let known = c .before .before .before .before .before .before .before .before .acceptance .given in
     let found = sym (e .before .before .before .find .ensures) ∙ e .before .enum-told .given .1 in
     let asked = rw (take-rest content 2) at
-    (judged-as (verdict (a .reader .fast) (commandOf content) _) (d .before .before .before .before .before .before .judge .ensures) (known .1))
+    (judged-as (served (a .reader .fast) (commandOf content) _) (d .before .before .before .before .before .before .judge .ensures) (known .1))
     in
     rw (framed-new {a = Accepted (known .0 .0)}) (rw (take-rest content 2) at (d .execute .ensures))
 
@@ -117,10 +117,10 @@ returns-3 c =
     let d = c .before .before .before .before .before .before .before .before .before .before in
     let a = d .before .before .before .before .before .before .before .before .before .before .args in
     let content = a .content .now in
-    let known = c .before .before .before .before .before .before .before .verdict2 .given in
+    let known = c .before .before .before .before .before .before .before .acceptance2 .given in
     let found = sym (d .before .before .before .find .ensures) ∙ d .before .enum-told .given .1 in
     let asked = rw (take-rest content 2) at
-    (judged-as (verdict (a .reader .fast) (commandOf content) _) (c .before .before .before .before .before .before .before .before .before .judge .ensures) (known .1))
+    (judged-as (served (a .reader .fast) (commandOf content) _) (c .before .before .before .before .before .before .before .before .before .judge .ensures) (known .1))
     in
     rw (framed-new {a = Faulty (known .0 .0)}, ← n .ensures)
     (put-answers (a .reader) (replyContent (identifierOf content) sign (NACK (n .result))) (a .store .now) (a .out .now)
@@ -141,9 +141,9 @@ answer-frame-spec =
     part-data-start
     part-data-end
     judge-requires
-    enum-known-verdict
+    enum-known-acceptance
     execute-requires
-    enum-known-verdict-2
+    enum-known-acceptance-2
     nack-of-requires
     write-nack-requires
     sending-requires-2

@@ -9,26 +9,26 @@ use Rattle.ground.proofs.Laws.Lists.{take-rest}
 use Rattle.request_spec.specs.declared.command.Command.{Command}
 use Rattle.request_spec.specs.Parameters.{isValueOf}
 use Rattle.request_spec.specs.Acceptance.{FitsCommand}
-use Rattle.reader_spec.specs.Speeds.{holds}
+use Rattle.reader_spec.specs.Speeds.{hasValue}
 use Rattle.reader_state.proofs.requests.serves.Statement.{statement}
 use Rattle.reader_state.proofs.requests.serves.Tie as tie
 
 enum-known-command : tie.Need-enum-known-command
 enum-known-command c = search needs
 
-sub-holds : tie.Need-sub-holds
-sub-holds c =
+sub-has-value : tie.Need-sub-has-value
+sub-has-value c =
     let a = c .before .before .before .before in
     subst (λ (k : Command). FitsCommand k (a .args .«data» .now)) (c .before .command .given .1) (a .pre) .0
 
-part-holds-start : tie.Need-part-holds-start
-part-holds-start c = sub-holds c
+part-has-value-start : tie.Need-part-has-value-start
+part-has-value-start c = sub-has-value c
 
-part-holds-end : tie.Need-part-holds-end
-part-holds-end c = search needs
+part-has-value-end : tie.Need-part-has-value-end
+part-has-value-end c = search needs
 
-holds-requires : tie.Need-holds-requires
-holds-requires c κs =
+has-value-requires : tie.Need-has-value-requires
+has-value-requires c κs =
     let a = c .before .before .before .before .before in
     let known = c .before .before .command .given in
     subst⁻¹ (λ (l : List ℕ). isValueOf (known .0 .0) l ≡ true) (take-rest (a .args .«data» .now) 1)
@@ -47,7 +47,7 @@ returns : tie.Need-returns
 returns c =
     let a = c .before .before .before .before .before .before .args in
     let known = c .before .before .before .command .given in
-    simp (known .1) (c .holds .ensures ∙ ap (holds (a .fast) (known .0 .0)) (take-rest (a .«data» .now) 1))
+    simp (known .1) (c .has-value .ensures ∙ ap (hasValue (a .fast) (known .0 .0)) (take-rest (a .«data» .now) 1))
 
 returns-2 : tie.Need-returns-2
 returns-2 c = simp (c .enum-told .given .1)
@@ -63,10 +63,10 @@ serves-spec =
     tie.close
     (tie.spec
     enum-known-command
-    sub-holds
-    part-holds-start
-    part-holds-end
-    holds-requires
+    sub-has-value
+    part-has-value-start
+    part-has-value-end
+    has-value-requires
     enum-told
     enum-told-2
     enum-told-3

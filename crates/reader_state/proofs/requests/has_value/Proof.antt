@@ -1,21 +1,21 @@
--- `requests::holds`: each arm answers the case of `holds` that its parameter names; a speed has one byte.
+-- `requests::has_value`: each arm answers the case of `hasValue` that its parameter names; a speed has one byte.
 -- Assumes nothing.
 use native.Mathlib.Omega.{arith}
 use borrow.Author.Needs.{needs}
 use Rattle.request_spec.proofs.Laws.Parameters.{value-length}
-use Rattle.reader_state.proofs.requests.holds.Statement.{statement}
-use Rattle.reader_state.proofs.requests.holds.Tie as tie
+use Rattle.reader_state.proofs.requests.has_value.Statement.{statement}
+use Rattle.reader_state.proofs.requests.has_value.Tie as tie
 
 enum-told : tie.Need-enum-told
 enum-told c = search needs
 
-shared-slice-read-runs-at : tie.Need-shared-slice-read-runs-at
-shared-slice-read-runs-at c =
+shared-slice-read-has-speed : tie.Need-shared-slice-read-has-speed
+shared-slice-read-has-speed c =
     let a = c .before .before .before .before in
     omega (arith, value-length (a .args .value .now) (c .before .enum-told .given .1) (a .pre))
 
-runs-at-requires : tie.Need-runs-at-requires
-runs-at-requires c κs = search needs
+has-speed-requires : tie.Need-has-speed-requires
+has-speed-requires c κs = search needs
 
 enum-told-2 : tie.Need-enum-told-2
 enum-told-2 c = search needs
@@ -24,7 +24,7 @@ enum-told-3 : tie.Need-enum-told-3
 enum-told-3 c = search needs
 
 returns : tie.Need-returns
-returns c = simp (c .before .before .enum-told .given .1) (c .runs-at .ensures)
+returns c = simp (c .before .before .enum-told .given .1) (c .has-speed .ensures)
 
 returns-2 : tie.Need-returns-2
 returns-2 c = simp (c .enum-told2 .given .1)
@@ -32,13 +32,13 @@ returns-2 c = simp (c .enum-told2 .given .1)
 returns-3 : tie.Need-returns-3
 returns-3 c = simp (c .enum-told3 .given .1)
 
-pub holds-spec : {M : Type 1} → statement M
-holds-spec =
+pub has-value-spec : {M : Type 1} → statement M
+has-value-spec =
     tie.close
     (tie.spec
     enum-told
-    shared-slice-read-runs-at
-    runs-at-requires
+    shared-slice-read-has-speed
+    has-speed-requires
     enum-told-2
     enum-told-3
     returns
