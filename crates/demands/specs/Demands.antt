@@ -87,7 +87,8 @@ pub record Demand2 : Type 0 where
       → List·Memᴰ (toldAt (length before + r .count) FRAME (identifier ∷ code ∷ «data»)) all
   pub check : (identifier command : ℕ) («data» : List ℕ) → residue (pointContent identifier command «data») ≡ goodResidue
   pub stuffed : (content : List ℕ) → unstuffing (stuffing content) ≡ some content
-  -- each call of a session answers as the paper's steps say; there are sessions, every call can be made in one, and no power-on is refused
+  -- each call of a session answers as the paper's steps say; there are sessions, of a fast reader and of a slow one, every call can be made in
+  -- one, and no power-on is refused
   pub answers : {alone : Bool} {s : Reader} {held : List ℕ} {h : History} → ReaderSession alone s held h → (c : Call alone h s held) → WellAnswered c
   pub begins : (alone fast : Bool) (store : List ℕ) → (s : Reader) × ReaderSession alone s store (begun fast)
   pub goesOn : {alone : Bool} {h : History} {s : Reader} {held : List ℕ} (i : Input) (lent : Buffers) → StoreKept alone h held (lent .store)

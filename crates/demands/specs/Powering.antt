@@ -11,7 +11,6 @@ use Rattle.wire_spec.specs.Writing.{after}
 use Rattle.link_spec.specs.declared.station.Station.the-variants.{Point}
 use Rattle.link_spec.specs.declared.receiver.Receiver.{Receiver}
 use Rattle.link_spec.specs.Hearing.{Told, IsFresh, Hearing}
-use Rattle.request_spec.specs.declared.parameter.Parameter.{Parameter}
 use Rattle.request_spec.specs.declared.parameter.Parameter.the-variants.{Speed, Settings, Cell}
 use Rattle.request_spec.specs.declared.command.Command.{Command}
 use Rattle.request_spec.specs.Replies.{NACK}
@@ -76,6 +75,11 @@ pub record Serves {alone : Bool} {h : History} {s : Reader} {held : List ℕ} (c
       → Hearing (before ++ (bytesSent c ++ rest)) m 0 all
       → HeardAndRead identifier code «data» before all (bytesSent c) (NACK 3)
 
+-- of a slow reader that calls lead to: its speed is 3..7, and that is what a read of it would answer
+pub record NeverAbove (s : Reader) (h : History) : Type 0 where
+  pub speed : Common (s .parameters .speed)
+  pub told : h .value Speed ≡ s .parameters .speed ∷ []
+
 pub record Request2 : Type 0 where
   -- a power-on of every good reader, and of every reader that calls lead to
   pub powers : (s : Reader) → (BadState (stateOf s) → ⊥) → (r : Powered) → powering r ≡ poweredOn (stateOf s) → PoweredFrom s r
@@ -86,9 +90,9 @@ pub record Request2 : Type 0 where
       → (identifier code : ℕ) («data» : List ℕ)
       → Asks c identifier code «data»
       → Serves c identifier code «data»
-  -- a reader stays fast or slow as it was made, and no slow one that calls lead to has a speed of 8..10
+  -- a reader stays fast or slow as it was made, and no slow one that calls lead to ever has a speed of 8..10
   pub kind : {alone : Bool} {s : Reader} {held : List ℕ} {h : History} → ReaderSession alone s held h → s .fast ≡ h .fast
-  pub never : {alone : Bool} {s : Reader} {held : List ℕ} {h : History} → ReaderSession alone s held h → h .fast ≡ false → Common (s .parameters .speed)
+  pub never : {alone : Bool} {s : Reader} {held : List ℕ} {h : History} → ReaderSession alone s held h → h .fast ≡ false → NeverAbove s h
   -- no call on a reader that calls lead to is refused 4
   pub good : {alone : Bool} {s : Reader} {held : List ℕ} {h : History} → ReaderSession alone s held h → (c : Call alone h s held)
       → number (c .answer .refusal) ≡ 4

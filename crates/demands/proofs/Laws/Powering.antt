@@ -3,8 +3,7 @@
 -- Assumes nothing.
 use mathlib.Core.Path.{_≡_, refl, sym, ap, subst, subst⁻¹, _∙_}
 use mathlib.Core.Bool.{Bool, true, false, true≢false}
-use mathlib.Core.List.{List, _++_}
-use mathlib.Core.Option.{none}
+use mathlib.Core.List.{List, [], _∷_, _++_}
 use Prim.Native.Nat.{ℕ}
 use native.Mathlib.Omega.{arith}
 use Rattle.ground.specs.Refusals.{number}
@@ -23,14 +22,14 @@ use Rattle.reader_spec.specs.Speeds.{hasSpeed, poweredSpeed}
 use Rattle.reader_spec.specs.State.{stateOf, BadState}
 use Rattle.reader_spec.specs.Replies.{replyImage}
 use Rattle.reader_spec.specs.Answering.{PoweredOn, powering, poweredOn, Answered}
-use Rattle.reader_spec.specs.Sessions.{History, poweredValue, forgetting, poweredBy, Call, bytesSent, ReaderSession}
+use Rattle.reader_spec.specs.Sessions.{History, poweredValue, poweredBy, Call, bytesSent, ReaderSession}
 use Rattle.reader_spec.proofs.Laws.Speeds.{has-within, slow-within, speed-stays, speed-falls, powered-slow, fast-row}
 use Rattle.reader_spec.proofs.Laws.Parameters.{value-powered}
 use Rattle.reader_spec.proofs.Laws.State.{no-memory, good-state, no-row, good-speed}
 use Rattle.reader_spec.proofs.Laws.Answering.{powers-on, four-only}
 use Rattle.reader_spec.proofs.Laws.Sessions.{session-agrees, session-good, power-fine}
-use Rattle.demands.specs.Exchanging.{Asks, RequestExecuted, HeardAndRead}
-use Rattle.demands.specs.Powering.{Common, PoweredFrom, ToldPowered, Typed, Serves, Request2}
+use Rattle.demands.specs.Exchanging.{Asks, HeardAndRead}
+use Rattle.demands.specs.Powering.{Common, PoweredFrom, ToldPowered, Typed, Serves, NeverAbove, Request2}
 use Rattle.demands.proofs.Laws.Exchange.{nack-exchange}
 use Rattle.demands.proofs.Laws.Requests.{request-executed, speed-nacked}
 
@@ -41,6 +40,10 @@ slow-common v has = record { least = has-within false v has .0; most = slow-with
 
 powered-common : (fast : Bool) (v : ℕ) → hasSpeed fast v ≡ true → Common (poweredSpeed v)
 powered-common fast v has = slow-common (poweredSpeed v) (powered-slow fast v has)
+
+-- the speed of a session's reader is what is told
+told-speed : {alone : Bool} {s : Reader} {held : List ℕ} {h : History} → ReaderSession alone s held h → h .value Speed ≡ s .parameters .speed ∷ []
+told-speed se = sym (ap (λ (value : Parameter → List ℕ). value Speed) (session-agrees se .values))
 
 -- ---- a power-on
 
@@ -67,7 +70,7 @@ told-powered : {alone : Bool} {s : Reader} {held : List ℕ} {h : History} → R
 told-powered {s = s} {h = h} se r says =
     let a = session-agrees se in
     let v = s .parameters .speed in
-    let was = sym (ap (λ (value : Parameter → List ℕ). value Speed) (a .values)) in
+    let was = told-speed se in
     subst⁻¹ (λ (n : ℕ). ToldPowered h (poweredBy h n)) (power-fine se r says)
     (record {
       before = v;
@@ -111,10 +114,14 @@ module _ {alone : Bool} {s : Reader} {held : List ℕ} {h : History} (se : Reade
 -- ---- what calls lead to
 
 slow-never : {alone : Bool} {s : Reader} {held : List ℕ} {h : History} → ReaderSession alone s held h → h .fast ≡ false
-    → Common (s .parameters .speed)
+    → NeverAbove s h
 slow-never {s = s} se slow =
     let a = session-agrees se in
-    slow-common (s .parameters .speed) (subst (λ (fast : Bool). hasSpeed fast (s .parameters .speed) ≡ true) (a .fast ∙ slow) (a .speed))
+    record {
+      speed = slow-common (s .parameters .speed)
+          (subst (λ (fast : Bool). hasSpeed fast (s .parameters .speed) ≡ true) (a .fast ∙ slow) (a .speed));
+      told = told-speed se;
+    }
 
 never-bad : {alone : Bool} {s : Reader} {held : List ℕ} {h : History} → ReaderSession alone s held h → (c : Call alone h s held)
     → number (c .answer .refusal) ≡ 4

@@ -4,12 +4,13 @@ use mathlib.Core.Path.{_≡_, refl, sym, ap, subst, subst⁻¹, _∙_}
 use mathlib.Core.Bool.{Bool, true, false, cond}
 use mathlib.Core.List.{List, [], _∷_}
 use mathlib.Mathlib.Logic.Function.Defs.{LeftInverse·injective}
-use Prim.Native.Nat.{ℕ, _≤_}
+use Prim.Native.Nat.{ℕ, _-_, _≤_}
 use native.Mathlib.Omega.{arith}
 use lib.Dec.{eqb}
-use lib.ListN.{length, getD, drop}
+use lib.ListN.{length, getD, take, drop}
 use borrow.Author.Tests.{eqb-true}
 use Rattle.ground.proofs.Laws.Choice.{cond-elim, or-elim, or-none}
+use Rattle.ground.proofs.Laws.Lists.{take-rest}
 use Rattle.link_spec.specs.Limits.{mostData}
 use Rattle.request_spec.specs.declared.parameter.Parameter.{Parameter}
 use Rattle.request_spec.specs.declared.parameter.Parameter.the-variants.{Speed, Settings, Cell}
@@ -194,6 +195,13 @@ fits-command (read p) = tt
 fits-command marin = tt
 fits-command hid = tt
 fits-command motorola = tt
+
+-- a write's data as the code takes it apart: there is a first byte, and the rest is a value
+pub write-fits : {command : Command} {p : Parameter} («data» : List ℕ) → command ≡ Write p → FitsCommand command «data»
+    → (1 ≤ length «data») × (isValueOf p (take (length «data» - 1) (drop 1 «data»)) ≡ true)
+write-fits {p = p} «data» is fits =
+    let (least, value) = subst (λ (k : Command). FitsCommand k «data») is fits in
+    (least, subst⁻¹ (λ (l : List ℕ). isValueOf p l ≡ true) (take-rest «data» 1) value)
 
 -- each command has its code
 pub accepted-code : {code : ℕ} {«data» : List ℕ} {command : Command} → Accepts code «data» command → code ≡ commandCode command

@@ -1,14 +1,9 @@
 -- `values::after_command`: only a write changes a value, and its value is what follows the parameter's code.
 -- Assumes nothing.
-use mathlib.Core.Path.{_≡_, ap, subst, subst⁻¹, _∙_}
-use mathlib.Core.List.{List}
-use mathlib.Core.Bool.{true}
-use Prim.Native.Nat.{ℕ}
+use mathlib.Core.Path.{ap, _∙_}
 use borrow.Author.Needs.{needs}
 use Rattle.ground.proofs.Laws.Lists.{take-rest}
-use Rattle.request_spec.specs.declared.command.Command.{Command}
-use Rattle.request_spec.specs.Parameters.{isValueOf}
-use Rattle.request_spec.specs.Acceptance.{FitsCommand}
+use Rattle.request_spec.proofs.Laws.Acceptance.{write-fits}
 use Rattle.reader_spec.specs.Parameters.{withValue}
 use Rattle.reader.proofs.values.after_command.Statement.{statement}
 use Rattle.reader.proofs.values.after_command.Tie as tie
@@ -18,8 +13,7 @@ enum-known-command c = search needs
 
 sub-with-value : tie.Need-sub-with-value
 sub-with-value c =
-    subst (λ (k : Command). FitsCommand k (c .before .before .before .before .args .«data» .now)) (c .before .command .given .1)
-    (c .before .before .before .before .pre) .0
+    let a = c .before .before .before .before in write-fits (a .args .«data» .now) (c .before .command .given .1) (a .pre) .0
 
 part-with-value-start : tie.Need-part-with-value-start
 part-with-value-start c = sub-with-value c
@@ -29,10 +23,8 @@ part-with-value-end c = search needs
 
 with-value-requires : tie.Need-with-value-requires
 with-value-requires c κs =
-    let «data» = c .before .before .before .before .before .args .«data» .now in
-    let known = c .before .before .command .given in
-    subst⁻¹ (λ (l : List ℕ). isValueOf (known .0 .0) l ≡ true) (take-rest «data» 1)
-    (subst (λ (k : Command). FitsCommand k «data») (known .1) (c .before .before .before .before .before .pre) .1)
+    let a = c .before .before .before .before .before in
+    write-fits (a .args .«data» .now) (c .before .before .command .given .1) (a .pre) .1
 
 enum-told : tie.Need-enum-told
 enum-told c = search needs

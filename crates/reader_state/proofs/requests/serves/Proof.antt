@@ -1,14 +1,9 @@
 -- `requests::serves`: only a write may be left undone, and its value is what follows the parameter's code.
 -- Assumes nothing.
-use mathlib.Core.Path.{_≡_, ap, subst, subst⁻¹, _∙_}
-use mathlib.Core.Bool.{true}
-use mathlib.Core.List.{List}
-use Prim.Native.Nat.{ℕ}
+use mathlib.Core.Path.{ap, _∙_}
 use borrow.Author.Needs.{needs}
 use Rattle.ground.proofs.Laws.Lists.{take-rest}
-use Rattle.request_spec.specs.declared.command.Command.{Command}
-use Rattle.request_spec.specs.Parameters.{isValueOf}
-use Rattle.request_spec.specs.Acceptance.{FitsCommand}
+use Rattle.request_spec.proofs.Laws.Acceptance.{write-fits}
 use Rattle.reader_spec.specs.Speeds.{hasValue}
 use Rattle.reader_state.proofs.requests.serves.Statement.{statement}
 use Rattle.reader_state.proofs.requests.serves.Tie as tie
@@ -18,8 +13,7 @@ enum-known-command c = search needs
 
 sub-has-value : tie.Need-sub-has-value
 sub-has-value c =
-    let a = c .before .before .before .before in
-    subst (λ (k : Command). FitsCommand k (a .args .«data» .now)) (c .before .command .given .1) (a .pre) .0
+    let a = c .before .before .before .before in write-fits (a .args .«data» .now) (c .before .command .given .1) (a .pre) .0
 
 part-has-value-start : tie.Need-part-has-value-start
 part-has-value-start c = sub-has-value c
@@ -30,9 +24,7 @@ part-has-value-end c = search needs
 has-value-requires : tie.Need-has-value-requires
 has-value-requires c κs =
     let a = c .before .before .before .before .before in
-    let known = c .before .before .command .given in
-    subst⁻¹ (λ (l : List ℕ). isValueOf (known .0 .0) l ≡ true) (take-rest (a .args .«data» .now) 1)
-    (subst (λ (k : Command). FitsCommand k (a .args .«data» .now)) (known .1) (a .pre) .1)
+    write-fits (a .args .«data» .now) (c .before .before .command .given .1) (a .pre) .1
 
 enum-told : tie.Need-enum-told
 enum-told c = search needs
