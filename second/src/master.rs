@@ -20,7 +20,7 @@ pub struct Request<'a> {
 }
 
 impl Request<'_> {
-    /// Refuses what the reader would refuse at step 4 or 5.
+    /// Refuses what every reader, a fast one too, would refuse at step 4 or 5.
     fn command(&self) -> Result<Command, Refusal> {
         Command::of(self.code, self.data).map_err(|_| Refusal::BadRequest)
     }

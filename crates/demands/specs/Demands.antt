@@ -100,12 +100,12 @@ pub record Demand2 : Type 0 where
       → Accepts code «data» command → IsFresh Point m → let bytes = replyImage identifier sign (NACK n) in
       Hearing (before ++ (bytes ++ rest)) m 0 all → HeardAndRead identifier code «data» before all bytes (NACK n)
   -- what was written to a parameter is what a later read sends, until another write of it or, for a speed above 7, a power-on, which leaves 3
-  pub values : {alone restarted : Bool} {s t : Reader} {held kept : List ℕ} {h k : History} {p : Parameter} → ReaderSession alone s held h
+  pub values : {alone withPower : Bool} {s t : Reader} {held kept : List ℕ} {h k : History} {p : Parameter} → ReaderSession alone s held h
       → (w : Call alone h s held) → Done w → isExecuted h (w .input) ≡ true → asksFor (w .input) ≡ Accepted (Write p)
-      → Unwritten alone p (w .answer .reader) (w .left .store) (nextHistory h (w .input)) t kept k restarted
+      → Unwritten alone p (w .answer .reader) (w .left .store) (nextHistory h (w .input)) t kept k withPower
       → (r : Call alone k t kept) → Done r → isExecuted k (r .input) ≡ true → asksFor (r .input) ≡ Accepted (Read p)
       → bytesSent r ≡ replyImage (identifierOf (r .input .content)) (commandOf (r .input .content))
-      (DATA (leftOf restarted p (drop 1 (dataOf (w .input .content)))))
+      (DATA (leftOf withPower p (drop 1 (dataOf (w .input .content)))))
   -- after a command was executed, and any calls that execute nothing and leave what is remembered of the store, a frame with its identifier and
   -- command, in a call that is not refused, gets the stored reply and changes nothing
   pub repeats : {s t : Reader} {held kept : List ℕ} {h : History} → ReaderSession false s held h

@@ -19,7 +19,7 @@ use Rattle.request_spec.specs.Replies.{Reply, NACK, sign, identifierOf, frontOf
 use Rattle.request_spec.specs.Reading.{hasRead, replyRead}
 use Rattle.reader_spec.specs.declared.reader.Asking.the-variants.{Right}
 use Rattle.reader_spec.specs.declared.reader.Reader.{Reader}
-use Rattle.reader_spec.specs.Speeds.{FastWrite}
+use Rattle.reader_spec.specs.Speeds.{WritesAbove}
 use Rattle.reader_spec.specs.State.{stateOf}
 use Rattle.reader_spec.specs.Asking.{asking}
 use Rattle.reader_spec.specs.Replies.{IsAnswer, replyImage, replyTo}
@@ -40,7 +40,7 @@ module _ {alone : Bool} {h : History} {s : Reader} {held : List ℕ} (c : Call a
   pub record RequestExecuted (command : Command) : Type 0 where
     pub asked : asksFor (c .input) ≡ Accepted command
     pub done : Done c
-    pub does : isExecuted h (c .input) ≡ true
+    pub executed : isExecuted h (c .input) ≡ true
     pub sends : bytesSent c ≡ bytesOf (c .input .content) (some (replyTo (h .value) command (c .input .header) (c .input .antenna)))
     pub reply : IsAnswer (replyTo (h .value) command (c .input .header) (c .input .antenna))
     pub goesOn : ReaderSession alone (c .answer .reader) (c .left .store) (judgedHistory h (c .input) (Accepted command))
@@ -71,9 +71,9 @@ pub record WellAnswered {alone : Bool} {h : History} {s : Reader} {held : List �
   pub fine : LentWell (c .input) (c .lent) → (Unfit (c .input) → ⊥) → Done c
   -- a request of the paper's table is executed, but not by a slow reader if it writes a speed of 8..10: that is NACK 3
   pub executes : (identifier code : ℕ) («data» : List ℕ) {command : Command} → Asks c identifier code «data» → Accepts code «data» command
-      → (h .fast ≡ false → FastWrite code «data» → ⊥)
+      → (h .fast ≡ false → WritesAbove code «data» → ⊥)
       → RequestExecuted c command
-  pub nacksSpeed : (identifier code : ℕ) («data» : List ℕ) → Asks c identifier code «data» → h .fast ≡ false → FastWrite code «data»
+  pub nacksSpeed : (identifier code : ℕ) («data» : List ℕ) → Asks c identifier code «data» → h .fast ≡ false → WritesAbove code «data»
       → RequestNacked c 3
   -- any other, if a frame can carry it, gets NACK 2 where the table has no row with its code, and NACK 3 where it has none with its data
   pub nacksCode : (identifier code : ℕ) («data» : List ℕ) → Asks c identifier code «data»

@@ -1,8 +1,9 @@
--- What a power cut leaves of a reader, and what a slow one does not do, over every session of calls. 02, L2; 003, 'Параметры считывателя', the
+-- What a power cut leaves of a reader, and what slow readers do not write, over every session of calls. 02, L2; 003, 'Параметры считывателя', the
 -- note **. `proofs/Laws/Powering` proves it. Assumes nothing.
 use mathlib.Core.Path.{_≡_}
 use mathlib.Core.Bool.{Bool, true, false}
 use mathlib.Core.List.{List, [], _∷_, _++_}
+use mathlib.Core.Option.{none}
 use mathlib.Core.Logic.{_↔_}
 use Prim.Native.Nat.{ℕ, _≤_}
 use Rattle.ground.specs.declared.refusal.Counted.{Counted}
@@ -11,49 +12,49 @@ use Rattle.wire_spec.specs.Writing.{after}
 use Rattle.link_spec.specs.declared.station.Station.the-variants.{Point}
 use Rattle.link_spec.specs.declared.receiver.Receiver.{Receiver}
 use Rattle.link_spec.specs.Hearing.{Told, IsFresh, Hearing}
+use Rattle.request_spec.specs.declared.parameter.Parameter.{Parameter}
 use Rattle.request_spec.specs.declared.parameter.Parameter.the-variants.{Speed, Settings, Cell}
 use Rattle.request_spec.specs.declared.command.Command.{Command}
 use Rattle.request_spec.specs.Replies.{NACK}
 use Rattle.request_spec.specs.Requesting.{requestWritten}
-use Rattle.reader_spec.specs.declared.reader.Memory.the-variants.{None}
 use Rattle.reader_spec.specs.declared.reader.Reader.{Reader}
 use Rattle.reader_spec.specs.declared.reader.Powered.{Powered}
-use Rattle.reader_spec.specs.Speeds.{FastWrite}
-use Rattle.reader_spec.specs.State.{stateOf, BadState}
-use Rattle.reader_spec.specs.Answering.{powering, poweredOn}
-use Rattle.reader_spec.specs.Sessions.{History, poweredBy, Call, bytesSent, ReaderSession}
-use Rattle.demands.specs.Exchanging.{Asks, RequestExecuted, HeardAndRead}
+use Rattle.reader_spec.specs.Speeds.{WritesAbove}
+use Rattle.reader_spec.specs.Parameters.{valueOf}
+use Rattle.reader_spec.specs.State.{State, stateOf, BadState}
+use Rattle.reader_spec.specs.Answering.{PoweredOn, powering, poweredOn}
+use Rattle.reader_spec.specs.Sessions.{History, poweredBy, Call, bytesSent, ReaderSession, madeFast}
+use Rattle.demands.specs.Exchanging.{Asks, RequestExecuted, RequestNacked, HeardAndRead}
 
 -- a speed that every reader has, and keeps: 3..7
 pub record Common (speed : ℕ) : Type 0 where
   pub least : 3 ≤ speed
   pub most : speed ≤ 7
 
--- a power-on of one reader
-pub record PoweredFrom (s : Reader) (r : Powered) : Type 0 where
-  pub fine : number (r .refusal) ≡ 0
-  -- 3..7 stay, 8..10 become 3, so it is 3..7 then
-  pub stays : s .parameters .speed ≤ 7 → r .reader .parameters .speed ≡ s .parameters .speed
-  pub falls : 8 ≤ s .parameters .speed → r .reader .parameters .speed ≡ 3
-  pub speed : Common (r .reader .parameters .speed)
-  -- both other parameters stay, and whether it is fast
-  pub settings : r .reader .parameters .settings ≡ s .parameters .settings
-  pub cell : r .reader .parameters .cell ≡ s .parameters .cell
-  pub fast : r .reader .fast ≡ s .fast
-  -- and the last command is forgotten
-  pub forgets : r .reader .memory ≡ None
+-- what a power-on leaves of the parameters' values: of a speed 3..7 stay and 8..10 become 3, so it is 3..7 then; both others stay
+pub record Leaves (was is : Parameter → List ℕ) : Type 0 where
+  pub old : ℕ
+  pub wasSpeed : was Speed ≡ old ∷ []
+  pub new : ℕ
+  pub isSpeed : is Speed ≡ new ∷ []
+  pub stays : old ≤ 7 → new ≡ old
+  pub falls : 8 ≤ old → new ≡ 3
+  pub speed : Common new
+  pub settings : is Settings ≡ was Settings
+  pub cell : is Cell ≡ was Cell
 
--- the same of what the calls tell: what each parameter would be read as
-pub record ToldPowered (h k : History) : Type 0 where
-  pub before : ℕ
-  pub was : h .value Speed ≡ before ∷ []
-  pub after : ℕ
-  pub is : k .value Speed ≡ after ∷ []
-  pub stays : before ≤ 7 → after ≡ before
-  pub falls : 8 ≤ before → after ≡ 3
-  pub speed : Common after
-  pub settings : k .value Settings ≡ h .value Settings
-  pub cell : k .value Cell ≡ h .value Cell
+-- a power-on of one reader: not refused; so much is left of the parameters, it is as fast as it was, and the last command is forgotten
+pub record PoweredFrom (s : State) (p : PoweredOn) : Type 0 where
+  pub fine : p .refusal ≡ 0
+  pub values : Leaves (valueOf (s .parameters)) (valueOf (p .state .parameters))
+  pub fast : p .state .fast ≡ s .fast
+  pub forgets : p .state .last ≡ none
+
+-- the same of what is told from the calls' inputs, so of what each parameter would be read as and of which request would be a repeat
+pub record ToldFrom (h k : History) : Type 0 where
+  pub values : Leaves (h .value) (k .value)
+  pub fast : k .fast ≡ h .fast
+  pub forgets : k .last ≡ none
 
 -- the writer of typed requests wrote this one
 pub record Typed (identifier code : ℕ) («data» : List ℕ) : Type 0 where
@@ -63,37 +64,41 @@ pub record Typed (identifier code : ℕ) («data» : List ℕ) : Type 0 where
   pub says : after result left ≡ requestWritten identifier code «data» out
   pub fine : tally result .refusal ≡ 0
 
--- what is promised of one call of a session on a request that repeats nothing, as none does that a fresh reader hears
-pub record Serves {alone : Bool} {h : History} {s : Reader} {held : List ℕ} (c : Call alone h s held) (identifier code : ℕ) («data» : List ℕ)
-    : Type 0 where
+-- What is promised of one call of a session on a request that repeats nothing (to a fresh reader none is a repeat), where the reader was made fast
+-- or slow.
+pub record AnswersTyped {alone : Bool} {h : History} {s : Reader} {held : List ℕ} (made : Bool) (c : Call alone h s held) (identifier code : ℕ)
+    («data» : List ℕ) : Type 0 where
   -- a fast reader executes every typed request
-  pub fast : h .fast ≡ true → Typed identifier code «data» → (command : Command) × RequestExecuted c command
+  pub fast : made ≡ true → Typed identifier code «data» → (command : Command) × RequestExecuted c command
   -- a slow one just those that write no speed of 8..10
-  pub slow : h .fast ≡ false → Typed identifier code «data» → ((command : Command) × RequestExecuted c command) ↔ (FastWrite code «data» → ⊥)
-  -- such a write it answers with NACK 3, by demand 2, and the master that sent it reads that
-  pub read : h .fast ≡ false → FastWrite code «data» → (before rest : List ℕ) {m : Receiver} {all : List Told} → IsFresh Point m
+  pub slow : made ≡ false → Typed identifier code «data» → ((command : Command) × RequestExecuted c command) ↔ (WritesAbove code «data» → ⊥)
+  -- such a write it answers with NACK 3 and nothing else, and the master that sent it reads that
+  pub nacks : made ≡ false → WritesAbove code «data» → RequestNacked c 3
+  pub read : made ≡ false → WritesAbove code «data» → (before rest : List ℕ) {m : Receiver} {all : List Told} → IsFresh Point m
       → Hearing (before ++ (bytesSent c ++ rest)) m 0 all
       → HeardAndRead identifier code «data» before all (bytesSent c) (NACK 3)
 
--- of a slow reader that calls lead to: its speed is 3..7, and that is what a read of it would answer
+-- a speed of 3..7, which is what a read of it would answer
 pub record NeverAbove (s : Reader) (h : History) : Type 0 where
   pub speed : Common (s .parameters .speed)
   pub told : h .value Speed ≡ s .parameters .speed ∷ []
 
 pub record Request2 : Type 0 where
   -- a power-on of every good reader, and of every reader that calls lead to
-  pub powers : (s : Reader) → (BadState (stateOf s) → ⊥) → (r : Powered) → powering r ≡ poweredOn (stateOf s) → PoweredFrom s r
+  pub powers : (s : Reader) → (BadState (stateOf s) → ⊥) → (r : Powered) → powering r ≡ poweredOn (stateOf s) → PoweredFrom (stateOf s) (powering r)
   pub told : {alone : Bool} {s : Reader} {held : List ℕ} {h : History} → ReaderSession alone s held h → (r : Powered)
       → powering r ≡ poweredOn (stateOf s)
-      → ToldPowered h (poweredBy h (number (r .refusal)))
-  pub serves : {alone : Bool} {s : Reader} {held : List ℕ} {h : History} → ReaderSession alone s held h → (c : Call alone h s held)
-      → (identifier code : ℕ) («data» : List ℕ)
+      → ToldFrom h (poweredBy h (number (r .refusal)))
+  pub answers : {alone : Bool} {s : Reader} {held : List ℕ} {h : History} (se : ReaderSession alone s held h) (c : Call alone h s held)
+      (identifier code : ℕ) («data» : List ℕ)
       → Asks c identifier code «data»
-      → Serves c identifier code «data»
-  -- a reader stays fast or slow as it was made, and no slow one that calls lead to ever has a speed of 8..10
-  pub kind : {alone : Bool} {s : Reader} {held : List ℕ} {h : History} → ReaderSession alone s held h → s .fast ≡ h .fast
-  pub never : {alone : Bool} {s : Reader} {held : List ℕ} {h : History} → ReaderSession alone s held h → h .fast ≡ false → NeverAbove s h
-  -- no call on a reader that calls lead to is refused 4
+      → AnswersTyped (madeFast se) c identifier code «data»
+  -- a reader is fast or slow as the one was with which the session began, in its record and in what is told
+  pub kind : {alone : Bool} {s : Reader} {held : List ℕ} {h : History} (se : ReaderSession alone s held h)
+      → (s .fast ≡ madeFast se) × (h .fast ≡ madeFast se)
+  -- no session that began with a slow one ever comes to a speed of 8..10
+  pub never : {alone : Bool} {s : Reader} {held : List ℕ} {h : History} (se : ReaderSession alone s held h) → madeFast se ≡ false → NeverAbove s h
+  -- no call on a reader that calls lead to is refused 4; nor is a power-on, by `Demand2.powers`
   pub good : {alone : Bool} {s : Reader} {held : List ℕ} {h : History} → ReaderSession alone s held h → (c : Call alone h s held)
       → number (c .answer .refusal) ≡ 4
       → ⊥

@@ -1,5 +1,5 @@
 -- Demand 1 in two parts: each call refuses what the paper's table names, and only that; a refused call changes and answers nothing.
--- 01, Refusal numbers; 02, L1 for number 10. Assumes nothing.
+-- 01, Refusal numbers; 02, L1 for number 10 and L2 for a slow reader's state. Assumes nothing.
 use mathlib.Core.Path.{_≡_}
 use mathlib.Core.Bool.{true, false}
 use mathlib.Core.List.{List}

@@ -44,7 +44,8 @@ pub record PoweredOn : Type 0 where
 abbrev pub powering : Powered → PoweredOn
 powering r = record { refusal = number (r .refusal); state = stateOf (r .reader) }
 
--- a power-on forgets the last command and keeps all three parameters, but a speed of 8..10, and whether the reader is fast; 4 only
+-- A power-on forgets the last command; a speed of 8..10 becomes 3, and all else stays: 3..7, both other parameters, whether the reader is fast. It
+-- refuses with 4 only.
 unfoldable pub poweredOn : State → PoweredOn
 poweredOn s =
     cond (badState s) (record { refusal = number BAD; state = s })
@@ -53,9 +54,9 @@ poweredOn s =
 -- row 4 for it, and else what it does. `Laws.Answering` proves that `poweredOn` answers by these, and that they leave it no other answer
 pub data PowerTable (s : State) : PoweredOn → Type 0 where
   refuses : BadState s → PowerTable s (record { refusal = number BAD; state = s })
-  keeps : (BadState s → ⊥) → s .parameters .speed ≤ 7
+  stays : (BadState s → ⊥) → s .parameters .speed ≤ 7
       → PowerTable s (record { refusal = 0; state = stateWith (s .parameters) (s .fast) none })
-  slows : (BadState s → ⊥) → 8 ≤ s .parameters .speed
+  falls : (BadState s → ⊥) → 8 ≤ s .parameters .speed
       → PowerTable s (record { refusal = 0; state = stateWith (withValue (s .parameters) Speed (3 ∷ [])) (s .fast) none })
 
 -- ---- one call

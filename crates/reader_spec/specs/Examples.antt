@@ -7,41 +7,40 @@ use mathlib.Core.List.{List, [], _∷_, _++_}
 use mathlib.Core.Option.{Option, none, some}
 use lib.ListN.{replicate}
 use Rattle.link_spec.specs.Events.{Name, FRAME, CHECK, SHORT}
+use Rattle.request_spec.specs.declared.parameter.Parameter.the-variants.{Speed}
 use Rattle.request_spec.specs.Replies.{Reply, ACK, NACK, DATA}
 use Rattle.reader_spec.specs.declared.reader.Parameters.{Parameters}
 use Rattle.reader_spec.specs.Limits.{room, leastFront, mostFront}
-use Rattle.reader_spec.specs.Parameters.{freshParameters}
+use Rattle.reader_spec.specs.Parameters.{freshParameters, withValue}
 use Rattle.reader_spec.specs.State.{Last, lastOf, State, stateWith, freshState}
 use Rattle.reader_spec.specs.Sending.{BufferName, OUT, STORE, Buffers, buffersOf, sent}
 use Rattle.reader_spec.specs.Answering.{inputOf, poweredOn, Answered, answered}
 use Rattle.reader_spec.specs.Sessions.{begun, replyDue}
 
--- what a user sees of a call: the refusal, the buffer, the bytes to send, and what is remembered then
+-- what a user sees of a call: the refusal, the buffer, the bytes to send, and the reader's speed, whether it is fast, and what it remembers then
 pub record Seen : Type 0 where
   pub refusal : ℕ
   pub buffer : BufferName
   pub bytes : List ℕ
+  pub speed : ℕ
+  pub fast : Bool
   pub last : Option Last
 
+abbrev pub seenWith : ℕ → BufferName → List ℕ → State → Seen
+seenWith refusal buffer bytes s =
+    record { refusal = refusal; buffer = buffer; bytes = bytes; speed = s .parameters .speed; fast = s .fast; last = s .last }
+
 abbrev pub seen : Answered → Seen
-seen a = record { refusal = a .refusal; buffer = a .buffer; bytes = sent (a .buffer) (a .length) (a .left); last = a .state .last }
+seen a = seenWith (a .refusal) (a .buffer) (sent (a .buffer) (a .length) (a .left)) (a .state)
 
 -- what happens to a reader: it hears a frame with this content, or is powered on
 pub data Act : Type 0 where
   frame : (content : List ℕ) → Act
   power : Act
 
--- what is seen of it: the buffer, the bytes to send, and the speed then
-pub record Shown : Type 0 where
-  pub buffer : BufferName
-  pub bytes : List ℕ
-  pub speed : ℕ
-
-abbrev pub shown : BufferName → List ℕ → ℕ → Shown
-shown buffer bytes speed = record { buffer = buffer; bytes = bytes; speed = speed }
-
 pub data Example : Type 0 where
-  -- what is due from a fresh reader that hears this, with this antenna's answer; none where it has no answer
+  -- what is due from a fresh reader, a fast one here and in the next two rows, that hears this, with this antenna's answer; none where it has no
+  -- answer
   means : (event : Name) (content antenna : List ℕ) (reply : Option Reply) → Example
   -- it answers this code and data with the NACK of this number
   nacks : (code : ℕ) («data» : List ℕ) (nack : ℕ) → Example
@@ -50,10 +49,10 @@ pub data Example : Type 0 where
       (refusal : ℕ) (buffer : BufferName) (bytes : List ℕ) (left : Option Last) → Example
   -- a reader with this speed and memory powered on: the refusal, and the speed and memory then
   powers : (fast : Bool) (speed : ℕ) (last : Option Last) (refusal after : ℕ) (left : Option Last) → Example
-  -- a call on a reader with this speed: the refusal
-  finds : (fast : Bool) (speed refusal : ℕ) → Example
-  -- all this happens to a fresh reader in turn
-  lives : (fast : Bool) (acts : List Act) (all : List Shown) → Example
+  -- a call on a reader with this speed: its refusal
+  refuses : (fast : Bool) (speed refusal : ℕ) → Example
+  -- all this happens to a fresh reader in turn, and so much is seen of each; a power-on sends nothing
+  lives : (fast : Bool) (acts : List Act) (all : List Seen) → Example
   -- so many bytes of a buffer sent
   parts : (buffer : BufferName) (count : ℕ) (store out printed : List ℕ) → Example
   -- a limit is this number
@@ -73,13 +72,12 @@ parametersAt speed = record { speed = speed; settings = replicate 4 5; cell = re
 abbrev buffers : ℕ → ℕ → Buffers
 buffers store out = buffersOf (replicate store 0xEE) (replicate out 0xEE)
 
-unfoldable pub allShown : State → Buffers → List Act → List Shown
-allShown s lent [] = []
-allShown s lent (frame content ∷ acts) =
-    let a = answered s (inputOf FRAME content device []) lent in
-    shown (a .buffer) (sent (a .buffer) (a .length) (a .left)) (a .state .parameters .speed) ∷ allShown (a .state) (a .left) acts
-allShown s lent (power ∷ acts) =
-    let p = poweredOn s in shown OUT [] (p .state .parameters .speed) ∷ allShown (p .state) lent acts
+unfoldable pub allSeen : State → Buffers → List Act → List Seen
+allSeen s lent [] = []
+allSeen s lent (frame content ∷ acts) =
+    let a = answered s (inputOf FRAME content device []) lent in seen a ∷ allSeen (a .state) (a .left) acts
+allSeen s lent (power ∷ acts) =
+    let p = poweredOn s in seenWith (p .refusal) OUT [] (p .state) ∷ allSeen (p .state) lent acts
 
 abbrev pub Holds : Example → Type 0
 Holds (means event content antenna reply) = replyDue (begun true) (inputOf event content device antenna) ≡ reply
@@ -87,12 +85,12 @@ Holds (nacks code «data» nack) = replyDue (begun true) (inputOf FRAME (0x00 �
 Holds (answers last event content antenna store out refusal buffer bytes left) =
     seen (answered (stateWith freshParameters true last) (inputOf event content device antenna)
     (buffers store out))
-    ≡ record { refusal = refusal; buffer = buffer; bytes = bytes; last = left }
+    ≡ seenWith refusal buffer bytes (stateWith freshParameters true left)
 Holds (powers fast speed last refusal after left) =
     poweredOn (stateWith (parametersAt speed) fast last) ≡ record { refusal = refusal; state = stateWith (parametersAt after) fast left }
-Holds (finds fast speed refusal) =
+Holds (refuses fast speed refusal) =
     answered (stateWith (parametersAt speed) fast none) (inputOf SHORT [] device []) (buffers room room) .refusal ≡ refusal
-Holds (lives fast acts all) = allShown (freshState fast) (buffers room room) acts ≡ all
+Holds (lives fast acts all) = allSeen (freshState fast) (buffers room room) acts ≡ all
 Holds (parts buffer count store out printed) = sent buffer count (buffersOf store out) ≡ printed
 Holds (counts limit number) = limit ≡ number
 
@@ -104,11 +102,18 @@ headerImage = 0xFD ∷ 0x00 ∷ 0x00 ∷ device ++ (0x99 ∷ 0x0F ∷ 0xFE ∷ [
 abbrev writesNine : List ℕ
 writesNine = 0x07 ∷ 0x01 ∷ 0x02 ∷ 9 ∷ []
 
-abbrev acked : List ℕ
-acked = 0xFD ∷ 0x07 ∷ 0x2A ∷ 0x55 ∷ 0xA2 ∷ 0x91 ∷ 0xFE ∷ []
+abbrev ackImage : List ℕ
+ackImage = 0xFD ∷ 0x07 ∷ 0x2A ∷ 0x55 ∷ 0xA2 ∷ 0x91 ∷ 0xFE ∷ []
 
-abbrev nacked : List ℕ
-nacked = 0xFD ∷ 0x07 ∷ 0x2A ∷ 0x03 ∷ 0x11 ∷ 0xA6 ∷ 0xFE ∷ []
+abbrev nackImage : List ℕ
+nackImage = 0xFD ∷ 0x07 ∷ 0x2A ∷ 0x03 ∷ 0x11 ∷ 0xA6 ∷ 0xFE ∷ []
+
+-- a fresh reader's parameters but for the speed, and the reader that executed such a write
+abbrev speedAt : ℕ → Parameters
+speedAt speed = withValue freshParameters Speed (speed ∷ [])
+
+abbrev written : Bool → ℕ → State
+written fast speed = stateWith (speedAt speed) fast (some (lastOf 0x07 0x01 7))
 
 abbrev pub examples : List Example
 examples =
@@ -168,19 +173,28 @@ examples =
     -- a slow reader has 7, and not 8
     ∷ powers false 7 none 0 7 none
     ∷ powers false 8 none 4 8 none
-    ∷ finds true 2 4
-    ∷ finds true 9 0
-    ∷ finds true 11 4
-    ∷ finds false 7 0
-    ∷ finds false 8 4
-    ∷ finds false 9 4
-    ∷ finds false 10 4
+    -- the same of a call: a fast reader has 3..10, a slow one 3..7
+    ∷ refuses true 2 4
+    ∷ refuses true 9 0
+    ∷ refuses true 11 4
+    ∷ refuses false 7 0
+    ∷ refuses false 8 4
+    ∷ refuses false 9 4
+    ∷ refuses false 10 4
     -- a write of 9 is executed, and repeated; after a power-on the same request is executed again
     ∷ lives true (frame writesNine ∷ frame writesNine ∷ power ∷ frame writesNine ∷ [])
-    (shown OUT acked 9 ∷ shown STORE acked 9 ∷ shown OUT [] 3 ∷ shown OUT acked 9 ∷ [])
+    (seenWith 0 OUT ackImage (written true 9)
+    ∷ seenWith 0 STORE ackImage (written true 9)
+    ∷ seenWith 0 OUT [] (freshState true)
+    ∷ seenWith 0 OUT ackImage (written true 9)
+    ∷ [])
     -- a slow reader answers it with NACK 3, and does not remember it: the same identifier and command with 7 are executed
     ∷ lives false (frame writesNine ∷ frame writesNine ∷ frame (0x07 ∷ 0x01 ∷ 0x02 ∷ 7 ∷ []) ∷ power ∷ [])
-    (shown OUT nacked 3 ∷ shown OUT nacked 3 ∷ shown OUT acked 7 ∷ shown OUT [] 7 ∷ [])
+    (seenWith 0 OUT nackImage (freshState false)
+    ∷ seenWith 0 OUT nackImage (freshState false)
+    ∷ seenWith 0 OUT ackImage (written false 7)
+    ∷ seenWith 0 OUT [] (stateWith (speedAt 7) false none)
+    ∷ [])
     -- some, all and too many bytes of a buffer
     ∷ parts OUT 2 (1 ∷ 2 ∷ 3 ∷ []) (4 ∷ 5 ∷ 6 ∷ []) (4 ∷ 5 ∷ [])
     ∷ parts STORE 3 (1 ∷ 2 ∷ 3 ∷ []) (4 ∷ 5 ∷ 6 ∷ []) (1 ∷ 2 ∷ 3 ∷ [])

@@ -38,6 +38,6 @@ pub record Repeated {a b : Bool} {h k : History} {s t : Reader} {held kept : Lis
   pub sends : bytesSent again ≡ bytesSent first
 
 -- after calls and power-ons that execute no write of a parameter its value is the same, but for a speed above 7 after a power-on
-pub record KeptValue (alone : Bool) (p : Parameter) (h : History) (t : Reader) (kept : List ℕ) (k : History) (restarted : Bool) : Type 0 where
+pub record KeptValue (alone : Bool) (p : Parameter) (h : History) (t : Reader) (kept : List ℕ) (k : History) (withPower : Bool) : Type 0 where
   pub session : ReaderSession alone t kept k
-  pub value : k .value p ≡ leftOf restarted p (h .value p)
+  pub value : k .value p ≡ leftOf withPower p (h .value p)

@@ -25,7 +25,7 @@ use Rattle.reader_spec.specs.declared.reader.Asking.the-variants.{Nothin
 use Rattle.reader_spec.specs.declared.reader.Reader.{Reader}
 use Rattle.reader_spec.specs.declared.reader.Powered.{Powered}
 use Rattle.reader_spec.specs.declared.reader.Answer.{Answer}
-use Rattle.reader_spec.specs.Speeds.{isAbove, servedAs}
+use Rattle.reader_spec.specs.Speeds.{poweredSpeed, servedAs}
 use Rattle.reader_spec.specs.State.{stateOf, freshState}
 use Rattle.reader_spec.specs.Asking.{asking}
 use Rattle.reader_spec.specs.Replies.{replyImage, replyTo}
@@ -63,7 +63,7 @@ begun fast = record { value = freshValues; fast = fast; last = none }
 
 -- what a power-on leaves of a value: a speed of 8, 9 or 10 becomes 3, and all others stay
 abbrev pub poweredValue : Parameter → List ℕ → List ℕ
-poweredValue Speed value = cond (isAbove (getD value 0 0)) (3 ∷ []) value
+poweredValue Speed value = poweredSpeed (getD value 0 0) ∷ []
 poweredValue Settings value = value
 poweredValue Cell value = value
 
@@ -101,12 +101,12 @@ abbrev pub bytesOf : List ℕ → Option Reply → List ℕ
 bytesOf content none = []
 bytesOf content (some reply) = replyImage (identifierOf content) (commandOf content) reply
 
--- what the code and data of an input may be
+-- what the code and data of an input ask for, as a request may
 abbrev pub asksFor : Input → Acceptance
 asksFor i = acceptance (commandOf (i .content)) (dataOf (i .content))
 
 module _ (h : History) (i : Input) where
-  -- and what this reader makes of them
+  -- and what this reader makes of that
   abbrev pub servedOf : Acceptance
   servedOf = servedAs (h .fast) (dataOf (i .content)) (asksFor i)
 
@@ -161,7 +161,7 @@ module _ (h : History) (i : Input) where
   abbrev pub isRepeat : Bool
   isRepeat = isFrame (asking (i .event)) && repeatsLast
 
-  -- a FRAME that is executed, unless the call refuses: no repeat, accepted, and done by this reader
+  -- a FRAME that is executed, unless the call refuses: no repeat, and one that this reader does
   abbrev pub isExecutedAs : Asking → Bool
   isExecutedAs asked = isFrame asked && (not repeatsLast && isAccepted servedOf)
 
@@ -216,6 +216,12 @@ pub data ReaderSession (alone : Bool) : Reader → List ℕ → History → Type
       → (c : Call alone h s held)
       → ReaderSession alone (c .answer .reader) (c .left .store) (historyAfter c)
 
+-- how the reader of a session was made: fast, or slow
+unfoldable pub madeFast : {alone : Bool} {s : Reader} {held : List ℕ} {h : History} → ReaderSession alone s held h → Bool
+madeFast (begins r store fast is) = fast
+madeFast (powered se r says) = madeFast se
+madeFast (called se c) = madeFast se
+
 -- calls in a row that execute nothing, refused ones too, from one reader and store to another
 pub data Idle (alone : Bool) (h : History) (s : Reader) (held : List ℕ) : Reader → List ℕ → Type 0 where
   rests : Idle alone h s held s held
@@ -224,19 +230,19 @@ pub data Idle (alone : Bool) (h : History) (s : Reader) (held : List ℕ) : Read
       → (Done c → isExecuted h (c .input) ≡ false)
       → Idle alone h s held (c .answer .reader) (c .left .store)
 
--- calls and power-ons in a row that execute no write of this parameter, from one reader, store and history to another; the last of these says
--- whether there was a power-on among them
+-- Calls and power-ons in a row that execute no write of this parameter, from one reader, store and history to another. `withPower` says whether
+-- there was a power-on among them, of which none is refused.
 pub data Unwritten (alone : Bool) (p : Parameter) (s : Reader) (held : List ℕ) (h : History) : Reader → List ℕ → History → Bool → Type 0 where
   still : Unwritten alone p s held h s held h false
-  power : {t : Reader} {kept : List ℕ} {k : History} {restarted : Bool} → Unwritten alone p s held h t kept k restarted
+  power : {t : Reader} {kept : List ℕ} {k : History} {withPower : Bool} → Unwritten alone p s held h t kept k withPower
       → (r : Powered)
       → powering r ≡ poweredOn (stateOf t)
       → Unwritten alone p s held h (r .reader) kept (poweredBy k (number (r .refusal))) true
-  other : {t : Reader} {kept : List ℕ} {k : History} {restarted : Bool} → Unwritten alone p s held h t kept k restarted
+  other : {t : Reader} {kept : List ℕ} {k : History} {withPower : Bool} → Unwritten alone p s held h t kept k withPower
       → (c : Call alone k t kept)
       → (Done c → isExecuted k (c .input) ≡ true → asksFor (c .input) ≡ Accepted (Write p) → ⊥)
-      → Unwritten alone p s held h (c .answer .reader) (c .left .store) (historyAfter c) restarted
+      → Unwritten alone p s held h (c .answer .reader) (c .left .store) (historyAfter c) withPower
 
--- what is left of a value then
+-- what is left of a value after them
 abbrev pub leftOf : Bool → Parameter → List ℕ → List ℕ
-leftOf restarted p value = cond restarted (poweredValue p value) value
+leftOf withPower p value = cond withPower (poweredValue p value) value

@@ -19,33 +19,29 @@ use Rattle.request_spec.specs.Acceptance.{acceptance}
 abbrev pub isAbove : ℕ → Bool
 isAbove v = ltb 7 v
 
--- not every reader has them: a fast one runs at every speed, a slow one at none of these
-abbrev pub runsAt : Bool → ℕ → Bool
-runsAt fast v = fast || not (isAbove v)
-
--- so the speeds that a reader has: a fast one 3..10, a slow one 3..7
+-- not every reader has these: a fast one has 3..10, a slow one 3..7
 abbrev pub hasSpeed : Bool → ℕ → Bool
-hasSpeed fast v = isSpeed v && runsAt fast v
+hasSpeed fast v = isSpeed v && (fast || not (isAbove v))
 
--- nor are they kept without power: at power-on 8..10 become 3, which is 9600, and 3..7 stay
+-- none keeps them without power: at power-on 8..10 become 3, which is 9600, and 3..7 stay
 abbrev pub poweredSpeed : ℕ → ℕ
 poweredSpeed v = cond (isAbove v) 3 v
 
--- a value that a parameter of this reader may have
+-- of a parameter's value, whether it may be this reader's
 abbrev pub hasValue : Bool → Parameter → List ℕ → Bool
 hasValue fast Speed value = hasSpeed fast (getD value 0 0)
 hasValue fast Settings value = true
 hasValue fast Cell value = true
 
--- What a request may be is `acceptance`. What this reader does of it: all but a write of a value that its parameter may not have. (A write's data
--- is the parameter's code and then its value.)
+-- What a request may be is `acceptance`. What this reader does of it: all but a write of a value that may not be its own. (A write's data is the
+-- parameter's code and then its value.)
 abbrev pub serves : Bool → Command → List ℕ → Bool
 serves fast Header «data» = true
 serves fast (Write p) «data» = hasValue fast p (drop 1 «data»)
 serves fast (Read p) «data» = true
 serves fast (Card card) «data» = true
 
--- step 5: such a write is NACK 3
+-- step 5: such a write is bad data, so NACK 3
 abbrev pub servedAs : Bool → List ℕ → Acceptance → Acceptance
 servedAs fast «data» (Accepted command) = cond (serves fast command «data») (Accepted command) (Faulty BadData)
 servedAs fast «data» (Faulty fault) = Faulty fault
@@ -55,5 +51,5 @@ abbrev pub served : Bool → ℕ → List ℕ → Acceptance
 served fast code «data» = servedAs fast «data» (acceptance code «data»)
 
 -- A write of a speed of 8, 9 or 10. `Laws.Speeds` proves that of what a request may be a slow reader does all but these, and a fast one all.
-pub data FastWrite : ℕ → List ℕ → Type 0 where
-  fastWrite : {v : ℕ} → 8 ≤ v → v ≤ 10 → FastWrite 0x01 (0x02 ∷ v ∷ [])
+pub data WritesAbove : ℕ → List ℕ → Type 0 where
+  writesAbove : {v : ℕ} → 8 ≤ v → v ≤ 10 → WritesAbove 0x01 (0x02 ∷ v ∷ [])

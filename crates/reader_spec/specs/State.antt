@@ -64,5 +64,5 @@ badState s = not (hasSpeed (s .fast) (s .parameters .speed)) || tooFar (s .last)
 pub data BadState (s : State) : Type 0 where
   speedUnder : s .parameters .speed < 3 → BadState s
   speedOver : 10 < s .parameters .speed → BadState s
-  speedOfFast : s .fast ≡ false → 8 ≤ s .parameters .speed → s .parameters .speed ≤ 10 → BadState s
+  slowAbove : s .fast ≡ false → 8 ≤ s .parameters .speed → s .parameters .speed ≤ 10 → BadState s
   lengthOver : {last : Last} → s .last ≡ some last → room < last .length → BadState s

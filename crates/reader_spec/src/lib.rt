@@ -1,5 +1,5 @@
 // The point reader, as types alone: its state, and what it answers to requests and to one that is repeated. What is so is in specs/; the
-// crate `reader` does it.
+// crates `reader_state` and `reader` do it.
 mod reader;
 
 use link_spec::MOST_DATA;

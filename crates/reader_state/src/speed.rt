@@ -1,43 +1,38 @@
-// The speeds above 115200 baud, which not every reader has, and which are not kept without power.
+// The speeds above 115200 baud, which not every reader has, and which none keeps without power.
 use request::is_speed;
 ghost use mathlib.Core.Path.{_≡_};
-ghost use Rattle.reader_spec.specs.Speeds.{runsAt, hasSpeed, poweredSpeed};
+ghost use Rattle.reader_spec.specs.Speeds.{isAbove, hasSpeed, poweredSpeed};
 
-// 9600 baud.
-pub(crate) const SPEED_AT_DELIVERY: u8 = 3;
+// The values of parameter 02 for these speeds.
+pub(crate) const SPEED_9600: u8 = 3;
 
-// 115200 baud.
-const MOST_KEPT: u8 = 7;
+const SPEED_115200: u8 = 7;
 
-// Whether a reader, fast or slow, runs at this speed.
-fn runs_at(fast: bool, speed: u8) -> bool
-    ensures { λ r. ⌜ r ≡ runsAt fast speed ⌝ }
+fn is_above(speed: u8) -> bool
+    ensures { λ r. ⌜ r ≡ isAbove speed ⌝ }
 {
-    if fast {
-        return true;
-    }
-    if speed > MOST_KEPT {
-        return false;
-    }
-    true
+    speed > SPEED_115200
 }
 
-// Whether its parameter may be this speed.
+// Whether a reader, fast or slow, has this speed.
 pub(crate) fn has_speed(fast: bool, speed: u8) -> bool
     ensures { λ r. ⌜ r ≡ hasSpeed fast speed ⌝ }
 {
-    if is_speed(speed) {
-        return runs_at(fast, speed);
+    if fast {
+        return is_speed(speed);
     }
-    false
+    if is_above(speed) {
+        return false;
+    }
+    is_speed(speed)
 }
 
 // The speed after a power-on.
 pub(crate) fn powered_speed(speed: u8) -> u8
     ensures { λ r. ⌜ r ≡ poweredSpeed speed ⌝ }
 {
-    if speed > MOST_KEPT {
-        return SPEED_AT_DELIVERY;
+    if is_above(speed) {
+        return SPEED_9600;
     }
     speed
 }

@@ -1,5 +1,5 @@
 // A reader as it is delivered, and after power-on; and whether its state is bad.
-use crate::speed::SPEED_AT_DELIVERY;
+use crate::speed::SPEED_9600;
 use crate::speed::has_speed;
 use crate::speed::powered_speed;
 use ground::Refusal;
@@ -31,7 +31,7 @@ fn fresh_parameters() -> Parameters
     ensures { λ r. ⌜ r ≡ freshParameters ⌝ }
 {
     Parameters {
-        speed: SPEED_AT_DELIVERY,
+        speed: SPEED_9600,
         settings: [0u8; SETTINGS_LENGTH],
         cell: [0u8; CELL_LENGTH],
     }

@@ -1,4 +1,5 @@
--- Which codes exist, and which data each accepts: one definition for the writer of requests, the reader and the master.
+-- Which codes exist, and which data each accepts: one definition for the writer of requests, the reader and the master. What a slow reader does not
+-- do of it is said in reader_spec, Speeds.
 -- 01, The point reader, steps 4 and 5 and the table; 001, 'Коды команд'. Assumes nothing.
 use Prim.Native.Nat.{ℕ, _≤_}
 use mathlib.Core.Path.{_≡_}

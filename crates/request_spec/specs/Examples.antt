@@ -19,7 +19,7 @@ use Rattle.request_spec.specs.Requesting.{requestWritten}
 use Rattle.request_spec.specs.Reading.{replyRead}
 
 pub data Example : Type 0 where
-  -- a reader accepts this code and data
+  -- this code and data are accepted
   accepts : (code : ℕ) («data» : List ℕ) → Example
   -- the writer of requests refuses this, whatever the room
   badRequest : (identifier code : ℕ) («data» out : List ℕ) → Example

@@ -97,7 +97,7 @@ readAs identifier code reply command =
     (cond (wrongCommand code reply) (notRead WrongCommand)
     (cond (isSign reply) (signRead command (dataOf reply)) (dataRead command (dataOf reply))))
 
--- and before them row 5: a request that step 4 or 5 would refuse
+-- and before them row 5: a request that step 4 or 5 would refuse of every reader, also of a fast one (02, L2)
 abbrev pub readBy : ℕ → ℕ → List ℕ → Acceptance → Understood
 readBy identifier code reply (Accepted command) = readAs identifier code reply command
 readBy identifier code reply (Faulty fault) = notRead BadRequest
@@ -148,7 +148,7 @@ pub data ByReply (identifier code : ℕ) («data» : List ℕ) : List ℕ → Un
 -- The master's rows of the refusal table, and the reply where no row applies. `Laws.Reading` proves that `replyRead` answers by them,
 -- and that they leave it no other answer.
 pub data MasterTable (identifier code : ℕ) («data» reply : List ℕ) : Understood → Type 0 where
-  -- 5: a request that step 4 or 5 would refuse
+  -- 5: a request that step 4 or 5 would refuse of every reader
   badRequest : ((command : Command) → Accepts code «data» command → ⊥) → MasterTable identifier code «data» reply (notRead BadRequest)
   acceptable : {command : Command} {answer : Understood} → Accepts code «data» command
       → ByReply identifier code «data» reply answer

@@ -11,7 +11,8 @@ use Rattle.link_spec.specs.Frame.{pointContent}
 use Rattle.request_spec.specs.declared.command.Command.{Command}
 use Rattle.request_spec.specs.Acceptance.{acceptance, isAccepted, Accepts}
 
--- a request that step 4 or 5 would answer with a NACK is BadRequest; else the frame's image, if there is room for it
+-- a request that every reader, also a fast one (02, L2), would answer with a NACK at step 4 or 5 is BadRequest; else the frame's image, if there
+-- is room for it
 unfoldable pub requestWritten : ℕ → ℕ → List ℕ → List ℕ → After
 requestWritten identifier code «data» out =
     cond (isAccepted (acceptance code «data»)) (imageWritten (pointContent identifier code «data») out) (notWritten BadRequest out)

@@ -18,12 +18,12 @@ use Rattle.request_spec.specs.Replies.{identifierOf, commandOf, dataOf}
 use Rattle.request_spec.proofs.Laws.Acceptance.{unknown-only, unknown-code, accepts, accepted, row-known, HasRow, known-row, accepted-short}
 use Rattle.reader_spec.specs.declared.reader.Asking.the-variants.{Right}
 use Rattle.reader_spec.specs.declared.reader.Reader.{Reader}
-use Rattle.reader_spec.specs.Speeds.{servedAs, served, FastWrite}
+use Rattle.reader_spec.specs.Speeds.{servedAs, served, WritesAbove}
 use Rattle.reader_spec.specs.State.{stateOf}
 use Rattle.reader_spec.specs.Asking.{asking}
 use Rattle.reader_spec.specs.Answering.{Answered, answerSays, isFront, judged}
 use Rattle.reader_spec.specs.Sessions.{History, repeats, repeatsLast, asksFor, servedOf, isExecuted, Call, Done, ReaderSession}
-use Rattle.reader_spec.proofs.Laws.Speeds.{row-done, fast-row, fast-faulty}
+use Rattle.reader_spec.proofs.Laws.Speeds.{served-row, above-row, above-faulty}
 use Rattle.reader_spec.proofs.Laws.Answering.{front-is, does-steps, steps-fine}
 use Rattle.reader_spec.proofs.Laws.Replies.{executed-answer}
 use Rattle.reader_spec.proofs.Laws.Sessions.{session-good, session-on, session-replies, call-framed}
@@ -63,15 +63,15 @@ module _ {alone : Bool} {s : Reader} {held : List ℕ} {h : History} (se : Reade
       rw (new, served-is ∙ asked) at framed
 
   -- a request of the paper's table is executed by a reader for which it repeats nothing, so by a fresh one, if it has the speed that is written
-  pub request-executed : {command : Command} → Accepts code «data» command → (h .fast ≡ false → FastWrite code «data» → ⊥)
+  pub request-executed : {command : Command} → Accepts code «data» command → (h .fast ≡ false → WritesAbove code «data» → ⊥)
       → RequestExecuted c command
   request-executed {command} row few =
       let fine = done (accepted-short row) in
-      let does = row-done (h .fast) row few in
+      let does = served-row (h .fast) row few in
       record {
         asked = asked-is ∙ accepted row;
         done = fine;
-        does = executes does;
+        executed = executes does;
         sends = session-replies se c fine (asks .event) new (served-is ∙ does);
         reply = executed-answer (h .value) command (c .input .header) (c .input .antenna);
         goesOn = rw (frame, new, served-is ∙ does) at (session-on se c fine);
@@ -89,9 +89,9 @@ module _ {alone : Bool} {s : Reader} {held : List ℕ} {h : History} (se : Reade
       }
 
   -- else, by a slow reader, it is answered NACK 3
-  pub speed-nacked : h .fast ≡ false → FastWrite code «data» → RequestNacked c 3
+  pub speed-nacked : h .fast ≡ false → WritesAbove code «data» → RequestNacked c 3
   speed-nacked slow write =
-      faulty-nacked BadData (ap (λ (fast : Bool). served fast code «data») slow ∙ fast-faulty write) (accepted-short (fast-row write))
+      faulty-nacked BadData (ap (λ (fast : Bool). served fast code «data») slow ∙ above-faulty write) (accepted-short (above-row write))
 
   -- any other, if a frame can carry it, is answered NACK 2 where no row has its code
   pub code-nacked : ((other : List ℕ) (command : Command) → Accepts code other command → ⊥) → length «data» ≤ mostData → RequestNacked c 2

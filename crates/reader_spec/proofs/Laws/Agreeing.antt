@@ -33,7 +33,7 @@ use Rattle.reader_spec.specs.Replies.{replyImage, replyTo}
 use Rattle.reader_spec.specs.Sending.{OUT, STORE, Buffers, sent}
 use Rattle.reader_spec.specs.Answering.{Input, Answered, LentWell, sending, nacked, executed, judged, recalled, framed, stepped}
 use Rattle.reader_spec.specs.Sessions.{Execution, imageOf, History, freshValues, begun, poweredValue, forgetting, repeats, isFrame, repeatsLast, asksFor, servedOf, judgedHistory, nextHistoryAs, judgedReply, bytesOf, dueAs, StoreKept}
-use Rattle.reader_spec.proofs.Laws.Speeds.{powered-has, served-was, done-fits}
+use Rattle.reader_spec.proofs.Laws.Speeds.{powered-has, served-was, served-fits}
 use Rattle.reader_spec.proofs.Laws.Parameters.{value-powered, powered-sized}
 use Rattle.reader_spec.proofs.Laws.Replies.{point-room}
 use Rattle.reader_spec.proofs.Laws.Answering.{framed-by}
@@ -220,7 +220,7 @@ module _ (alone : Bool) (s : State) (i : Input) (lent : Buffers) (whole : length
         → StepAgrees alone (judgedHistory known i k) (bytesOf (i .content) (some (judgedReply known i k))) false (judged s i lent k)
     judged-agrees (Faulty fault) asked a = nack-agrees (identifierOf (i .content)) (nackOf fault) a
     judged-agrees (Accepted command) asked a =
-        executed-agrees command (done-fits (s .fast) (commandOf (i .content)) (dataOf (i .content)) asked)
+        executed-agrees command (served-fits (s .fast) (commandOf (i .content)) (dataOf (i .content)) asked)
         (served-was (s .fast) (dataOf (i .content)) (asksFor i) asked .1) a
 
   recalled-agrees : (value : Parameter → List ℕ) (fast : Bool) (last : Option Execution)

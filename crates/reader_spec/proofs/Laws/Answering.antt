@@ -33,7 +33,7 @@ use Rattle.reader_spec.specs.State.{State, stateWith, find, badState, Ba
 use Rattle.reader_spec.specs.Asking.{asking}
 use Rattle.reader_spec.specs.Replies.{replyImage}
 use Rattle.reader_spec.specs.Sending.{OUT, Buffers}
-use Rattle.reader_spec.specs.Answering.{PoweredOn, poweredOn, PowerTable, refuses, keeps, slows, Input, Answered, notAnswered, nacked, replyBytes, judged, recalled, framed, stepped, LentWell, isFront, fits, admitted, answered, CarriesContent, frame, check, Unfit, short, long, ReaderTable, state, noStore, noOut, tooLong, request, steps}
+use Rattle.reader_spec.specs.Answering.{PoweredOn, poweredOn, PowerTable, refuses, stays, falls, Input, Answered, notAnswered, nacked, replyBytes, judged, recalled, framed, stepped, LentWell, isFront, fits, admitted, answered, CarriesContent, frame, check, Unfit, short, long, ReaderTable, state, noStore, noOut, tooLong, request, steps}
 use Rattle.reader_spec.proofs.Laws.Speeds.{speed-stays, speed-falls}
 use Rattle.reader_spec.proofs.Laws.State.{bad-state, bad-row, good-state, no-row}
 
@@ -65,14 +65,14 @@ power-by-table s =
     (λ _ bad. subst⁻¹ (PowerTable s) (refuses-power (bad-row s bad)) (refuses (bad-row s bad)))
     (λ _ good. by-test (λ (t : Bool). isAbove (s .parameters .speed) ≡ t → PowerTable s (poweredOn s)) (isAbove (s .parameters .speed))
     (λ _ above. let many = ltb-true 7 (s .parameters .speed) above in
-    subst⁻¹ (PowerTable s) (power-slows s good many) (slows (good-state good) many))
+    subst⁻¹ (PowerTable s) (power-slows s good many) (falls (good-state good) many))
     (λ _ below. let few = ltb-false 7 (s .parameters .speed) below in
-    subst⁻¹ (PowerTable s) (power-keeps s good few) (keeps (good-state good) few)) refl) refl
+    subst⁻¹ (PowerTable s) (power-keeps s good few) (stays (good-state good) few)) refl) refl
 
 pub power-only : {s : State} {p : PoweredOn} → PowerTable s p → p ≡ poweredOn s
 power-only (refuses bad) = sym (refuses-power bad)
-power-only {s} (keeps good few) = sym (power-keeps s (no-row s good) few)
-power-only {s} (slows good many) = sym (power-slows s (no-row s good) many)
+power-only {s} (stays good few) = sym (power-keeps s (no-row s good) few)
+power-only {s} (falls good many) = sym (power-slows s (no-row s good) many)
 
 -- a refused one leaves the reader as before
 pub powered-keeps : (s : State) → Keeps (poweredOn s .refusal) s (poweredOn s .state)

@@ -12,11 +12,11 @@ use Rattle.request_spec.specs.Acceptance.{acceptance}
 use Rattle.reader_spec.specs.Replies.{replyTo}
 use Rattle.reader_spec.specs.Sending.{sent}
 use Rattle.reader_spec.specs.Answering.{poweredOn, framed, answered}
-use Rattle.reader_spec.specs.Examples.{allShown, Holds, examples}
+use Rattle.reader_spec.specs.Examples.{allSeen, Holds, examples}
 
 pub each-holds : Each Holds examples
 unfolding shiftStep shiftSteps byteStep run residue fcs fcsBytes checkOf withCheck stuffed stuffing image pointContent parameterWith isValueOf acceptance
-    replyTo sent poweredOn framed answered allShown
+    replyTo sent poweredOn framed answered allSeen
 each-holds =
     refl and refl and refl and refl and refl and refl and refl and refl and refl and refl and refl and refl
     and refl and refl and refl and refl and refl and refl and refl and refl and refl and refl and refl and refl

@@ -1,19 +1,17 @@
 -- Laws of the parameters' values.
 -- Assumes nothing.
-use mathlib.Core.Path.{_≡_, refl}
-use mathlib.Core.Bool.{Bool, cond}
+use mathlib.Core.Path.{_≡_, refl, ap}
 use mathlib.Core.List.{List, [], _∷_}
 use Prim.Native.Nat.{ℕ}
 use native.Mathlib.Omega.{arith}
 use lib.ListN.{length, getD}
-use Rattle.ground.proofs.Laws.Choice.{cond-elim, by-test}
 use Rattle.request_spec.specs.declared.parameter.Parameter.{Parameter}
 use Rattle.request_spec.specs.declared.parameter.Parameter.the-variants.{Speed, Settings, Cell}
 use Rattle.request_spec.specs.Parameters.{lengthOf}
 use Rattle.reader_spec.specs.declared.reader.Parameters.{Parameters}
-use Rattle.reader_spec.specs.Speeds.{isAbove}
 use Rattle.reader_spec.specs.Parameters.{valueOf, withValue, afterPower}
 use Rattle.reader_spec.specs.Sessions.{valueSet, poweredValue}
+use Rattle.reader_spec.proofs.Laws.Speeds.{speed-twice}
 
 -- a value of one byte is that byte
 one-byte : (value : List ℕ) → length value ≡ 1 → getD value 0 0 ∷ [] ≡ value
@@ -37,20 +35,17 @@ value-written ps Cell value whole Cell = refl
 -- ---- what a power-on leaves of a value
 
 pub value-powered : (ps : Parameters) (p : Parameter) → valueOf (afterPower ps) p ≡ poweredValue p (valueOf ps p)
-value-powered ps Speed =
-    by-test (λ (t : Bool). cond t 3 (ps .speed) ∷ [] ≡ cond t (3 ∷ []) (ps .speed ∷ [])) (isAbove (ps .speed)) (λ _. refl) (λ _. refl)
+value-powered ps Speed = refl
 value-powered ps Settings = refl
 value-powered ps Cell = refl
 
 pub powered-sized : (p : Parameter) (value : List ℕ) → length value ≡ lengthOf p → length (poweredValue p value) ≡ lengthOf p
-powered-sized Speed value whole = cond-elim (λ (l : List ℕ). length l ≡ 1) (isAbove (getD value 0 0)) (λ _. refl) (λ _. whole)
+powered-sized Speed value whole = refl
 powered-sized Settings value whole = whole
 powered-sized Cell value whole = whole
 
 -- a second power-on leaves what the first one left
 pub powered-twice : (p : Parameter) (value : List ℕ) → poweredValue p (poweredValue p value) ≡ poweredValue p value
-powered-twice Speed value =
-    by-test (λ (t : Bool). isAbove (getD value 0 0) ≡ t → poweredValue Speed (cond t (3 ∷ []) value) ≡ cond t (3 ∷ []) value)
-    (isAbove (getD value 0 0)) (λ _ _. refl) (λ _ below. rw below) refl
+powered-twice Speed value = ap (λ (v : ℕ). v ∷ []) (speed-twice (getD value 0 0))
 powered-twice Settings value = refl
 powered-twice Cell value = refl

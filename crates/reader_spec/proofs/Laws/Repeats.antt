@@ -20,7 +20,7 @@ use Rattle.reader_spec.specs.Replies.{replyImage, replyTo}
 use Rattle.reader_spec.specs.Answering.{Answered, replyBytes}
 use Rattle.reader_spec.specs.Sessions.{Execution, imageOf, History, repeatsLast, nextHistory, isExecuted, remembers, Call, Done, ReaderSession, Idle}
 use Rattle.reader_spec.specs.Promises.{Repeated}
-use Rattle.reader_spec.proofs.Laws.Sessions.{session-agrees, session-on, is-frame, is-new, is-accepted, does-asked, call-executed, executed-sends, repeat-stored, loose-call}
+use Rattle.reader_spec.proofs.Laws.Sessions.{session-agrees, session-on, is-frame, is-new, is-accepted, served-asked, call-executed, executed-sends, repeat-stored, loose-call}
 use Rattle.reader_spec.proofs.Laws.Idle.{idle-keeps}
 
 module _ {s : Reader} {held : List ℕ} {h : History} (se : ReaderSession false s held h) (first : Call false h s held) (done : Done first)
@@ -44,7 +44,7 @@ module _ {s : Reader} {held : List ℕ} {h : History} (se : ReaderSession false 
       } in
       let on = session-on se first done in
       let same = idle-keeps on idle in
-      let last : i .last ≡ some e = rw (is-frame se first done does, is-new se first done does, does-asked se first done does ∙ asked) refl in
+      let last : i .last ≡ some e = rw (is-frame se first done does, is-new se first done does, served-asked se first done does ∙ asked) refl in
       let repeats : repeatsLast i (again .input) ≡ true =
       rw (last, same-identifier, same-command, eq-eqb (e .identifier) (e .identifier) refl, eq-eqb (e .code) (e .code) refl) refl in
       let recalls = repeat-stored (same .session) (loose-call again) done′ asks repeats in

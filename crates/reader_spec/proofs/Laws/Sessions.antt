@@ -6,10 +6,11 @@ use mathlib.Core.List.{List}
 use mathlib.Core.Option.{Option, none, some}
 use Prim.Native.Nat.{ℕ}
 use native.Mathlib.Omega.{arith}
+use lib.Dec.{eqb}
 use lib.ListN.{length, take}
 use borrow.Author.Tests.{eqb-false}
 use Rattle.ground.specs.Refusals.{number}
-use Rattle.ground.proofs.Laws.Choice.{by-test}
+use Rattle.ground.proofs.Laws.Choice.{cond-elim, by-test}
 use Rattle.link_spec.specs.Events.{FRAME, CHECK}
 use Rattle.request_spec.specs.declared.command.Acceptance.{Acceptance}
 use Rattle.request_spec.specs.declared.command.Acceptance.the-variants.{Accepted, Faulty}
@@ -25,7 +26,7 @@ use Rattle.reader_spec.specs.Asking.{asking}
 use Rattle.reader_spec.specs.Replies.{replyImage, replyTo}
 use Rattle.reader_spec.specs.Sending.{sent}
 use Rattle.reader_spec.specs.Answering.{PoweredOn, powering, poweredOn, Input, Answered, LentWell, answerSays, executed, judged, stepped}
-use Rattle.reader_spec.specs.Sessions.{Execution, imageOf, History, begun, poweredBy, repeats, isFrame, bytesOf, repeatsLast, asksFor, servedOf, nextHistory, nextHistoryBy, judgedReply, toSend, isRepeat, isExecuted, remembers, Call, Done, bytesSent, ReaderSession, begins, powered, called}
+use Rattle.reader_spec.specs.Sessions.{Execution, imageOf, History, begun, poweredBy, repeats, isFrame, bytesOf, repeatsLast, asksFor, servedOf, judgedHistory, nextHistoryAs, nextHistory, nextHistoryBy, judgedReply, toSend, isRepeat, isExecuted, remembers, Call, Done, bytesSent, ReaderSession, begins, powered, called, madeFast}
 use Rattle.reader_spec.specs.Promises.{Recalls}
 use Rattle.reader_spec.proofs.Laws.Speeds.{served-was}
 use Rattle.reader_spec.proofs.Laws.State.{readerWith, state-back}
@@ -64,6 +65,33 @@ session-agrees {alone} {held = held} (powered {s} {h = h} se r says) =
     subst⁻¹ (λ (p : PoweredOn). Agrees alone (p .state) held (poweredBy h (p .refusal))) (says ∙ powers-on (stateOf s) (agrees-good a))
     (agrees-powered a)
 session-agrees (called se c) = call-follows (session-agrees se) c .agrees
+
+-- what is told of whether the reader is fast stays, by each call
+next-fast : (h : History) (i : Input) (n : ℕ) → nextHistoryBy h i n .fast ≡ h .fast
+next-fast h i n = cond-elim Same (eqb n 0) (λ _. next (asking (i .event))) (λ _. refl)
+  where
+    Same : History → Type 0
+    Same k = k .fast ≡ h .fast
+
+    judged-fast : (k : Acceptance) → Same (judgedHistory h i k)
+    judged-fast (Accepted command) = refl
+    judged-fast (Faulty fault) = refl
+
+    next : (asked : Asking) → Same (nextHistoryAs h i asked)
+    next Nothing = refl
+    next Wrong = refl
+    next Right = cond-elim Same (repeatsLast h i) (λ _. refl) (λ _. judged-fast (servedOf h i))
+
+-- so it is as the reader was made, in what is told and in its record
+pub told-made : {alone : Bool} {s : Reader} {held : List ℕ} {h : History} (se : ReaderSession alone s held h) → h .fast ≡ madeFast se
+unfolding madeFast
+told-made (begins r store fast is) = refl
+told-made (powered {h = h} se r says) =
+    cond-elim (λ (k : History). k .fast ≡ h .fast) (eqb (number (r .refusal)) 0) (λ _. refl) (λ _. refl) ∙ told-made se
+told-made (called {h = h} se c) = next-fast h (c .input) (number (c .answer .refusal)) ∙ told-made se
+
+pub made-fast : {alone : Bool} {s : Reader} {held : List ℕ} {h : History} (se : ReaderSession alone s held h) → s .fast ≡ madeFast se
+made-fast se = session-agrees se .fast ∙ told-made se
 
 -- a call in which nobody else wrote to the store is one in which somebody may have
 abbrev pub loose-call : {alone : Bool} {h : History} {s : Reader} {held : List ℕ} → Call alone h s held → Call false h s held
@@ -165,8 +193,8 @@ module _ {alone : Bool} {s : Reader} {held : List ℕ} {h : History} (se : Reade
       no-repeat =
           ap (λ (t : Bool). isFrame (asking (c .input .event)) && t) is-new ∙ and-false (isFrame (asking (c .input .event)))
 
-      is-done : (command : Command) × (servedOf h (c .input) ≡ Accepted command)
-      is-done =
+      is-served : (command : Command) × (servedOf h (c .input) ≡ Accepted command)
+      is-served =
           of (servedOf h (c .input)) refl
           (and-eq-true-iff (not (repeatsLast h (c .input))) (isAccepted (servedOf h (c .input))) .0 (parts .1) .1)
         where
@@ -175,19 +203,19 @@ module _ {alone : Bool} {s : Reader} {held : List ℕ} {h : History} (se : Reade
           of (Faulty fault) is fine = absurd (false≢true fine)
 
       -- so the reader does what it may be asked for
-      pub does-asked : servedOf h (c .input) ≡ asksFor (c .input)
-      does-asked = is-done .1 ∙ sym (served-was (h .fast) (dataOf (c .input .content)) (asksFor (c .input)) (is-done .1) .0)
+      pub served-asked : servedOf h (c .input) ≡ asksFor (c .input)
+      served-asked = is-served .1 ∙ sym (served-was (h .fast) (dataOf (c .input .content)) (asksFor (c .input)) (is-served .1) .0)
 
       pub is-accepted : (command : Command) × (asksFor (c .input) ≡ Accepted command)
-      is-accepted = (is-done .0, sym does-asked ∙ is-done .1)
+      is-accepted = (is-served .0, sym served-asked ∙ is-served .1)
 
       pub call-executed : {command : Command} → asksFor (c .input) ≡ Accepted command
           → answerSays (c .answer) (c .left) ≡ executed (stateOf s) (c .input) (c .lent) command
-      call-executed asked = call-framed is-frame ∙ rw (is-new, does-asked ∙ asked)
+      call-executed asked = call-framed is-frame ∙ rw (is-new, served-asked ∙ asked)
 
       -- and its reply is sent
       pub executed-sends : {command : Command} → asksFor (c .input) ≡ Accepted command
           → bytesSent c ≡ bytesOf (c .input .content) (some (replyTo (h .value) command (c .input .header) (c .input .antenna)))
       executed-sends asked =
           let sends : bytesSent c ≡ toSend h (c .input) = session-sends (λ again. absurd (true≢false (sym again ∙ no-repeat))) in
-          rw (is-frame, is-new, does-asked ∙ asked) at sends
+          rw (is-frame, is-new, served-asked ∙ asked) at sends

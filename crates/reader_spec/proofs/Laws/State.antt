@@ -1,6 +1,6 @@
 -- A reader is known by its state, and the bad states are those of row 4 of the refusal table.
 -- Assumes nothing.
-use mathlib.Core.Path.{_≡_, refl, sym, ap, _∙_}
+use mathlib.Core.Path.{_≡_, refl, sym, _∙_}
 use mathlib.Core.Bool.{Bool, true, false, not, _&&_, _||_, and-false, or-true, true≢false, false≢true}
 use mathlib.Core.Option.{Option, none, some}
 use mathlib.Mathlib.Logic.Function.Defs.{LeftInverse·injective}
@@ -13,8 +13,8 @@ use Rattle.reader_spec.specs.declared.reader.Memory.{Memory}
 use Rattle.reader_spec.specs.declared.reader.Memory.the-variants as memory
 use Rattle.reader_spec.specs.declared.reader.Reader.{Reader}
 use Rattle.reader_spec.specs.Limits.{room}
-use Rattle.reader_spec.specs.Speeds.{isAbove, runsAt, hasSpeed}
-use Rattle.reader_spec.specs.State.{Last, State, remembered, stateOf, tooFar, badState, BadState, speedUnder, speedOver, speedOfFast, lengthOver}
+use Rattle.reader_spec.specs.Speeds.{isAbove, hasSpeed}
+use Rattle.reader_spec.specs.State.{Last, State, remembered, stateOf, tooFar, badState, BadState, speedUnder, speedOver, slowAbove, lengthOver}
 
 -- ---- a reader and its state
 
@@ -26,10 +26,6 @@ memoryWith (some last) = memory.Last (last .identifier) (last .command) (last .l
 memory-back : (m : Memory) → memoryWith (remembered m) ≡ m
 memory-back memory.None = refl
 memory-back (memory.Last identifier command length) = refl
-
--- so a memory that says that there is none is none
-pub no-memory : (m : Memory) → remembered m ≡ none → m ≡ memory.None
-no-memory m says = sym (memory-back m) ∙ ap memoryWith says
 
 -- a reader in this state
 abbrev pub readerWith : State → Reader
@@ -55,7 +51,7 @@ state-back s = λ i. record { parameters = s .parameters; fast = s .fast; last =
 pub bad-state : {s : State} → BadState s → badState s ≡ true
 bad-state {s} (speedUnder under) = rw (lt-leb 3 (s .parameters .speed) under)
 bad-state {s} (speedOver over) = rw (lt-leb (s .parameters .speed) 10 over, and-false (leb 3 (s .parameters .speed)))
-bad-state {s} (speedOfFast slow above most) =
+bad-state {s} (slowAbove slow above most) =
     rw (slow, lt-ltb 7 (s .parameters .speed) above, and-false (isSpeed (s .parameters .speed)))
 bad-state {s} (lengthOver {last} is far) =
     rw (is, lt-ltb room (last .length) far, or-true (not (hasSpeed (s .fast) (s .parameters .speed))))
@@ -63,18 +59,18 @@ bad-state {s} (lengthOver {last} is far) =
 pub bad-row : (s : State) → badState s ≡ true → BadState s
 bad-row s bad = or-elim (not (hasSpeed (s .fast) (s .parameters .speed))) (tooFar (s .last)) speed (far (s .last) refl) bad
   where
-    beyond : s .parameters .speed ≤ 10 → not (runsAt (s .fast) (s .parameters .speed)) ≡ true → BadState s
+    beyond : s .parameters .speed ≤ 10 → not (s .fast || not (isAbove (s .parameters .speed))) ≡ true → BadState s
     beyond most =
         let v = s .parameters .speed in
         by-test (λ (t : Bool). not (t || not (isAbove v)) ≡ true → BadState s) (s .fast) (λ _ never. absurd (false≢true never))
-        (λ slow. by-test (λ (t : Bool). not (not t) ≡ true → BadState s) (isAbove v) (λ above _. speedOfFast slow (ltb-true 7 v above) most)
+        (λ slow. by-test (λ (t : Bool). not (not t) ≡ true → BadState s) (isAbove v) (λ above _. slowAbove slow (ltb-true 7 v above) most)
         (λ _ never. absurd (false≢true never)))
 
     speed : not (hasSpeed (s .fast) (s .parameters .speed)) ≡ true → BadState s
     speed =
         let v = s .parameters .speed in
-        by-test (λ (t : Bool). not ((t && leb v 10) && runsAt (s .fast) v) ≡ true → BadState s) (leb 3 v)
-        (λ _. by-test (λ (t : Bool). not (t && runsAt (s .fast) v) ≡ true → BadState s) (leb v 10) (λ t. beyond (leb-true v 10 t))
+        by-test (λ (t : Bool). not ((t && leb v 10) && (s .fast || not (isAbove v))) ≡ true → BadState s) (leb 3 v)
+        (λ _. by-test (λ (t : Bool). not (t && (s .fast || not (isAbove v))) ≡ true → BadState s) (leb v 10) (λ t. beyond (leb-true v 10 t))
         (λ f _. speedOver (leb-false v 10 f)))
         (λ f _. speedUnder (leb-false 3 v f))
 

@@ -28,7 +28,7 @@ use Rattle.reader_spec.specs.Sessions.{History, poweredValue, poweredBy,
 use Rattle.reader_spec.specs.Promises.{KeptValue}
 use Rattle.reader_spec.proofs.Laws.Speeds.{served-was}
 use Rattle.reader_spec.proofs.Laws.Parameters.{powered-twice}
-use Rattle.reader_spec.proofs.Laws.Sessions.{session-on, power-fine, is-frame, is-new, does-asked, executed-sends}
+use Rattle.reader_spec.proofs.Laws.Sessions.{session-on, power-fine, is-frame, is-new, served-asked, executed-sends}
 use Rattle.reader_spec.proofs.Laws.Idle.{executes-nothing}
 
 -- ---- a call that executes no write of a parameter keeps its value
@@ -60,28 +60,28 @@ module _ (p : Parameter) (h : History) (i : Input) where
       (λ e. ap (λ (k : History). k .value p) (executes-nothing h i e))
 
 -- a power-on leaves of what is left what it leaves of the value
-left-powered : (restarted : Bool) (p : Parameter) (value : List ℕ) → poweredValue p (leftOf restarted p value) ≡ poweredValue p value
+left-powered : (withPower : Bool) (p : Parameter) (value : List ℕ) → poweredValue p (leftOf withPower p value) ≡ poweredValue p value
 left-powered true p value = powered-twice p value
 left-powered false p value = refl
 
 -- so does every sequence of such calls, and of power-ons but for a speed above 7
-pub unwritten-value : {alone restarted : Bool} {p : Parameter} {s t : Reader} {held kept : List ℕ} {h k : History} → ReaderSession alone s held h
-    → Unwritten alone p s held h t kept k restarted
-    → KeptValue alone p h t kept k restarted
+pub unwritten-value : {alone withPower : Bool} {p : Parameter} {s t : Reader} {held kept : List ℕ} {h k : History} → ReaderSession alone s held h
+    → Unwritten alone p s held h t kept k withPower
+    → KeptValue alone p h t kept k withPower
 unwritten-value se still = record { session = se; value = refl }
-unwritten-value {p = p} {h = h} se (power {k = k} {restarted = restarted} u r says) =
+unwritten-value {p = p} {h = h} se (power {k = k} {withPower = withPower} u r says) =
     let v = unwritten-value se u in
     record {
       session = powered (v .session) r says;
       value = ap (λ (n : ℕ). poweredBy k n .value p) (power-fine (v .session) r says)
           ∙ ap (poweredValue p) (v .value)
-          ∙ left-powered restarted p (h .value p);
+          ∙ left-powered withPower p (h .value p);
     }
-unwritten-value {p = p} {h = h} se (other {k = k} {restarted = restarted} u c idle) =
+unwritten-value {p = p} {h = h} se (other {k = k} {withPower = withPower} u c idle) =
     let v = unwritten-value se u in
     record {
       session = called (v .session) c;
-      value = cond-elim (λ (l : History). l .value p ≡ leftOf restarted p (h .value p)) (eqb (number (c .answer .refusal)) 0)
+      value = cond-elim (λ (l : History). l .value p ≡ leftOf withPower p (h .value p)) (eqb (number (c .answer .refusal)) 0)
           (λ e. next-kept p k (c .input) (idle (eqb-true (number (c .answer .refusal)) 0 e)) ∙ v .value) (λ _. v .value);
     }
 
@@ -98,23 +98,23 @@ read-answers se c done does asked = executed-sends se c done does asked
 
 -- a value that was written is what a read sends, after any calls and power-ons that execute no other write of it; for a speed above 7 that is
 -- 3 after a power-on
-pub written-read : {alone restarted : Bool} {s t : Reader} {held kept : List ℕ} {h k : History} {p : Parameter} → ReaderSession alone s held h
+pub written-read : {alone withPower : Bool} {s t : Reader} {held kept : List ℕ} {h k : History} {p : Parameter} → ReaderSession alone s held h
     → (writes : Call alone h s held)
     → Done writes
     → isExecuted h (writes .input) ≡ true
     → asksFor (writes .input) ≡ Accepted (Write p)
-    → Unwritten alone p (writes .answer .reader) (writes .left .store) (nextHistory h (writes .input)) t kept k restarted
+    → Unwritten alone p (writes .answer .reader) (writes .left .store) (nextHistory h (writes .input)) t kept k withPower
     → (reads : Call alone k t kept)
     → Done reads
     → isExecuted k (reads .input) ≡ true
     → asksFor (reads .input) ≡ Accepted (Read p)
     → bytesSent reads
     ≡ replyImage (identifierOf (reads .input .content)) (commandOf (reads .input .content))
-    (DATA (leftOf restarted p (drop 1 (dataOf (writes .input .content)))))
-written-read {restarted = restarted} {h = h} {p = p} se writes done does asked later reads done′ does′ asked′ =
+    (DATA (leftOf withPower p (drop 1 (dataOf (writes .input .content)))))
+written-read {withPower = withPower} {h = h} {p = p} se writes done does asked later reads done′ does′ asked′ =
     let v = unwritten-value (session-on se writes done) later in
     let value : nextHistory h (writes .input) .value p ≡ drop 1 (dataOf (writes .input .content)) =
-    rw (is-frame se writes done does, is-new se writes done does, does-asked se writes done does ∙ asked, eq-eqb (parameterCode p) (parameterCode p) refl) refl in
+    rw (is-frame se writes done does, is-new se writes done does, served-asked se writes done does ∙ asked, eq-eqb (parameterCode p) (parameterCode p) refl) refl in
     read-answers (v .session) reads done′ does′ asked′
     ∙ ap (λ (l : List ℕ). replyImage (identifierOf (reads .input .content)) (commandOf (reads .input .content)) (DATA l))
-    (v .value ∙ ap (leftOf restarted p) value)
+    (v .value ∙ ap (leftOf withPower p) value)

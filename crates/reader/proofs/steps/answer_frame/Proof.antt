@@ -10,7 +10,7 @@ use Rattle.request_spec.proofs.Laws.Acceptance.{judged-as}
 use Rattle.reader_spec.specs.declared.reader.Repeat.the-variants.{Stored}
 use Rattle.reader_spec.specs.Speeds.{served}
 use Rattle.reader_spec.specs.Replies.{replyContent}
-use Rattle.reader_spec.proofs.Laws.Speeds.{done-fits}
+use Rattle.reader_spec.proofs.Laws.Speeds.{served-fits}
 use Rattle.reader_spec.proofs.Laws.Answering.{framed-by}
 use Rattle.reader.proofs.Laws.Answering.{put-answers, framed-new, front-least}
 use Rattle.reader.proofs.steps.answer_frame.Statement.{statement}
@@ -72,7 +72,7 @@ execute-requires c κs =
     let d = c .before .before .before .before .before in
     let a = d .before .before .before .before .before .before .before .before .before .before .before in
     let code = commandOf (a .args .content .now) in (
-      done-fits (a .args .reader .fast) code _
+      served-fits (a .args .reader .fast) code _
           (judged-as (served (a .args .reader .fast) code _) (d .judge .ensures) (c .before .before .before .acceptance .given .1)),
       a .pre .1,
     )

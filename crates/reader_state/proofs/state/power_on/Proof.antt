@@ -1,4 +1,4 @@
--- `state::power_on`: a good state loses its last command, and a bad one is refused as it is.
+-- `state::power_on`: a good state loses its last command, with the parameters that `after_power` leaves, and a bad one is refused as it is.
 -- Assumes nothing.
 use mathlib.Core.Path.{sym, _∙_}
 use borrow.Author.Needs.{needs}
