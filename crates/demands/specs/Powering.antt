@@ -34,9 +34,9 @@ pub record Common (speed : ℕ) : Type 0 where
 -- what a power-on leaves of the parameters' values: of a speed 3..7 stay and 8..10 become 3, so it is 3..7 then; both others stay
 pub record Leaves (was is : Parameter → List ℕ) : Type 0 where
   pub old : ℕ
-  pub wasSpeed : was Speed ≡ old ∷ []
+  pub oldSpeed : was Speed ≡ old ∷ []
   pub new : ℕ
-  pub isSpeed : is Speed ≡ new ∷ []
+  pub newSpeed : is Speed ≡ new ∷ []
   pub stays : old ≤ 7 → new ≡ old
   pub falls : 8 ≤ old → new ≡ 3
   pub speed : Common new

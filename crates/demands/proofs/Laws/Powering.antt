@@ -50,9 +50,9 @@ values-left : (ps : Parameters) (fast : Bool) → hasSpeed fast (ps .speed) ≡ 
 values-left ps fast has =
     record {
       old = ps .speed;
-      wasSpeed = refl;
+      oldSpeed = refl;
       new = poweredSpeed (ps .speed);
-      isSpeed = refl;
+      newSpeed = refl;
       stays = speed-stays (ps .speed);
       falls = speed-falls (ps .speed);
       speed = powered-common fast (ps .speed) has;
