@@ -3,14 +3,14 @@
 -- 01, The point reader and 'Master's side'; 02, L2. Assumes nothing.
 use mathlib.Core.Path.{_≡_}
 use mathlib.Core.Bool.{Bool, true, false}
-use mathlib.Core.List.{List, _∷_, _++_, List·Memᴰ}
+use mathlib.Core.List.{List, [], _∷_, _++_, List·Memᴰ}
 use mathlib.Core.Option.{some}
 use Prim.Native.Nat.{ℕ, _+_, _≤_}
 use lib.ListN.{length}
 use Rattle.link_spec.specs.declared.station.Station.the-variants.{Point}
 use Rattle.link_spec.specs.declared.receiver.Receiver.{Receiver}
 use Rattle.link_spec.specs.Limits.{mostData}
-use Rattle.link_spec.specs.Events.{FRAME}
+use Rattle.link_spec.specs.Events.{FRAME, CHECK}
 use Rattle.link_spec.specs.Hearing.{Told, toldAt, IsFresh, Hearing}
 use Rattle.request_spec.specs.declared.command.Command.{Command}
 use Rattle.request_spec.specs.declared.command.Acceptance.the-variants.{Accepted}
@@ -23,8 +23,8 @@ use Rattle.reader_spec.specs.Speeds.{WritesAbove}
 use Rattle.reader_spec.specs.State.{stateOf}
 use Rattle.reader_spec.specs.Asking.{asking}
 use Rattle.reader_spec.specs.Replies.{IsAnswer, replyImage, replyTo}
-use Rattle.reader_spec.specs.Answering.{LentWell, Unfit, answerSays}
-use Rattle.reader_spec.specs.Sessions.{History, repeats, bytesOf, repeatsLast, asksFor, judgedHistory, toSend, isRepeat, isExecuted, Call, Done, bytesSent, ReaderSession}
+use Rattle.reader_spec.specs.Answering.{LentWell, CarriesContent, Unfit, answerSays}
+use Rattle.reader_spec.specs.Sessions.{Execution, History, bytesOf, repeatsLast, asksFor, judgedHistory, toSend, isRepeat, isExecuted, Call, Done, bytesSent, ReaderSession}
 use Rattle.reader_spec.specs.Promises.{Unchanged, Recalls}
 
 module _ {alone : Bool} {h : History} {s : Reader} {held : List ℕ} (c : Call alone h s held) where
@@ -33,10 +33,10 @@ module _ {alone : Bool} {h : History} {s : Reader} {held : List ℕ} (c : Call a
     pub event : c .input .event ≡ FRAME
     pub content : c .input .content ≡ identifier ∷ code ∷ «data»
     pub well : LentWell (c .input) (c .lent)
-    pub new : repeats (h .last) identifier code ≡ false
+    pub new : (e : Execution) → h .last ≡ some e → e .identifier ≡ identifier → e .code ≡ code → ⊥
 
-  -- It executed the request as this command: it sends the reply that the table has for the values written so far, and the session goes on with
-  -- what the command did, and with it as the last one executed.
+  -- It executed the request as this command: it sends the reply that the table has for the values by the writes and power-ons so far, and the
+  -- session goes on with what the command did, and with it as the last one executed.
   pub record RequestExecuted (command : Command) : Type 0 where
     pub asked : asksFor (c .input) ≡ Accepted command
     pub done : Done c
@@ -84,6 +84,9 @@ pub record WellAnswered {alone : Bool} {h : History} {s : Reader} {held : List �
       → ((command : Command) → Accepts code «data» command → ⊥)
       → length «data» ≤ mostData
       → RequestNacked c 3
+  -- a CHECK gets NACK 1, and any other event but a FRAME no answer
+  pub nacksCheck : Done c → c .input .event ≡ CHECK → RequestNacked c 1
+  pub silent : Done c → (CarriesContent (c .input .event) → ⊥) → bytesSent c ≡ []
   -- a call that executes nothing, as at a CHECK or where there is no answer, changes neither state nor store
   pub keeps : (Done c → isExecuted h (c .input) ≡ false) → ChangesNothing c
   -- the reply to a request that is executed is heard wherever it stands, and read by the master as what it is

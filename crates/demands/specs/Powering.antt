@@ -24,7 +24,7 @@ use Rattle.reader_spec.specs.Parameters.{valueOf}
 use Rattle.reader_spec.specs.State.{State, stateOf, BadState}
 use Rattle.reader_spec.specs.Answering.{PoweredOn, powering, poweredOn}
 use Rattle.reader_spec.specs.Sessions.{History, poweredBy, Call, bytesSent, ReaderSession, madeFast}
-use Rattle.demands.specs.Exchanging.{Asks, RequestExecuted, RequestNacked, HeardAndRead}
+use Rattle.demands.specs.Exchanging.{Asks, RequestExecuted, HeardAndRead}
 
 -- a speed that every reader has, and keeps: 3..7
 pub record Common (speed : ℕ) : Type 0 where
@@ -72,8 +72,7 @@ pub record AnswersTyped {alone : Bool} {h : History} {s : Reader} {held : List �
   pub fast : made ≡ true → Typed identifier code «data» → (command : Command) × RequestExecuted c command
   -- a slow one just those that write no speed of 8..10
   pub slow : made ≡ false → Typed identifier code «data» → ((command : Command) × RequestExecuted c command) ↔ (WritesAbove code «data» → ⊥)
-  -- such a write it answers with NACK 3 and nothing else, and the master that sent it reads that
-  pub nacks : made ≡ false → WritesAbove code «data» → RequestNacked c 3
+  -- such a write it answers with NACK 3 and nothing else, by `WellAnswered.nacksSpeed`, and the master that sent it reads that
   pub read : made ≡ false → WritesAbove code «data» → (before rest : List ℕ) {m : Receiver} {all : List Told} → IsFresh Point m
       → Hearing (before ++ (bytesSent c ++ rest)) m 0 all
       → HeardAndRead identifier code «data» before all (bytesSent c) (NACK 3)

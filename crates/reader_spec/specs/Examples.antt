@@ -117,9 +117,11 @@ written fast speed = stateWith (speedAt speed) fast (some (lastOf 0x07 0x01 7))
 
 abbrev pub examples : List Example
 examples =
-    -- identifier 00, command 00 is no repeat to a fresh reader; the speed read and written; a code that does not exist; a wrong check; SHORT
+    -- identifier 00, command 00 is no repeat to a fresh reader; the parameters read and the speed written; a code that does not exist; a wrong check; SHORT
     means FRAME (0x00 ∷ 0x00 ∷ []) [] (some (DATA device))
     ∷ means FRAME (0x07 ∷ 0x02 ∷ 0x02 ∷ []) [] (some (DATA (3 ∷ [])))
+    ∷ means FRAME (0x07 ∷ 0x02 ∷ 0x05 ∷ []) [] (some (DATA (replicate 4 0)))
+    ∷ means FRAME (0x07 ∷ 0x02 ∷ 0x80 ∷ []) [] (some (DATA (replicate 8 0)))
     ∷ means FRAME (0x00 ∷ 0x01 ∷ 0x02 ∷ 3 ∷ []) [] (some ACK)
     ∷ means FRAME (0x00 ∷ 0x03 ∷ []) [] (some (NACK 2))
     ∷ means CHECK (0x00 ∷ 0x00 ∷ []) [] (some (NACK 1))
@@ -154,10 +156,11 @@ examples =
     ∷ answers none FRAME (replicate 63 0x2B) [] 130 130 5 OUT [] none
     ∷ answers none CHECK (replicate 63 0x2B) [] 130 130 5 OUT [] none
     ∷ answers none SHORT (replicate 63 0x2B) [] 130 130 0 OUT [] none
-    -- a repeat sends the remembered bytes of the store whatever its data, and changes nothing; another identifier is executed
+    -- a repeat sends the remembered bytes of the store whatever its data, and changes nothing; another identifier is executed, and another command
     ∷ answers (some (lastOf 0x07 0x10 3)) FRAME (0x07 ∷ 0x10 ∷ 0x99 ∷ []) (1 ∷ []) 130 130 0 STORE (0xEE ∷ 0xEE ∷ 0xEE ∷ [])
     (some (lastOf 0x07 0x10 3))
-    ∷ answers (some (lastOf 0x07 0x10 3)) FRAME (0x00 ∷ 0x00 ∷ []) [] 130 130 0 OUT headerImage (some (lastOf 0x00 0x00 46))
+    ∷ answers (some (lastOf 0x07 0x00 3)) FRAME (0x00 ∷ 0x00 ∷ []) [] 130 130 0 OUT headerImage (some (lastOf 0x00 0x00 46))
+    ∷ answers (some (lastOf 0x00 0x10 3)) FRAME (0x00 ∷ 0x00 ∷ []) [] 130 130 0 OUT headerImage (some (lastOf 0x00 0x00 46))
     -- a remembered length of 131 is no state
     ∷ answers (some (lastOf 0x07 0x10 131)) FRAME (0x07 ∷ 0x10 ∷ []) [] 130 130 4 OUT [] (some (lastOf 0x07 0x10 131))
     -- power-on forgets the last command; a remembered length of 130 and of 131

@@ -36,4 +36,4 @@ doneTo ps (Card card) «data» = ps
 
 -- what a power-on does to them: a speed of 8..10 becomes 3, and both others stay
 abbrev pub afterPower : Parameters → Parameters
-afterPower ps = record { speed = poweredSpeed (ps .speed); settings = ps .settings; cell = ps .cell }
+afterPower ps = withValue ps Speed (poweredSpeed (ps .speed) ∷ [])

@@ -25,7 +25,7 @@ use Rattle.reader_spec.specs.declared.reader.Asking.the-variants.{Nothin
 use Rattle.reader_spec.specs.declared.reader.Reader.{Reader}
 use Rattle.reader_spec.specs.declared.reader.Powered.{Powered}
 use Rattle.reader_spec.specs.declared.reader.Answer.{Answer}
-use Rattle.reader_spec.specs.Speeds.{poweredSpeed, servedAs}
+use Rattle.reader_spec.specs.Speeds.{poweredSpeed, served}
 use Rattle.reader_spec.specs.State.{stateOf, freshState}
 use Rattle.reader_spec.specs.Asking.{asking}
 use Rattle.reader_spec.specs.Replies.{replyImage, replyTo}
@@ -108,7 +108,7 @@ asksFor i = acceptance (commandOf (i .content)) (dataOf (i .content))
 module _ (h : History) (i : Input) where
   -- and what this reader makes of that
   abbrev pub servedOf : Acceptance
-  servedOf = servedAs (h .fast) (dataOf (i .content)) (asksFor i)
+  servedOf = served (h .fast) (commandOf (i .content)) (dataOf (i .content))
 
   -- the input's identifier and command are those of the last executed command
   abbrev pub repeatsLast : Bool

@@ -3,7 +3,7 @@ use request::is_speed;
 ghost use mathlib.Core.Path.{_≡_};
 ghost use Rattle.reader_spec.specs.Speeds.{isAbove, hasSpeed, poweredSpeed};
 
-// The values of parameter 02 for these speeds.
+// The values of parameter 02 for 9600 baud, to which a power-on returns, and for 115200, the last that every reader has.
 pub(crate) const SPEED_9600: u8 = 3;
 
 const SPEED_115200: u8 = 7;

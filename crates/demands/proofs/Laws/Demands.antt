@@ -35,7 +35,7 @@ use Rattle.demands.specs.Refusing.{RefusesByTable, RefusedChangesNothing
 use Rattle.demands.specs.Demands.{Demand1, Demand2, Demand3}
 use Rattle.demands.proofs.Laws.Refusing.{put-stops, length-counts, image-counts, point-counts, addressed-counts, request-counts, new-refused, received-silent, received-unrefused, reply-meaningless, listed-counts, reported-zeros}
 use Rattle.demands.proofs.Laws.Exchange.{exchange, nack-exchange}
-use Rattle.demands.proofs.Laws.Requests.{request-executed, speed-nacked, code-nacked, data-nacked}
+use Rattle.demands.proofs.Laws.Requests.{request-executed, speed-nacked, code-nacked, data-nacked, check-answered, other-silent}
 use Rattle.demands.proofs.Laws.Going.{receiver-goes-on, tape-goes-on}
 
 refuses-by-table : RefusesByTable
@@ -111,6 +111,8 @@ demand-2 =
         nacksSpeed = λ identifier code «data» asks slow write. speed-nacked se c identifier code «data» asks slow write;
         nacksCode = λ identifier code «data» asks none. code-nacked se c identifier code «data» asks none;
         nacksData = λ identifier code «data» other asks row none. data-nacked se c identifier code «data» asks other row none;
+        nacksCheck = check-answered se c;
+        silent = other-silent se c;
         keeps = call-keeps se c;
         read = exchange se c;
       };

@@ -105,7 +105,6 @@ module _ {alone : Bool} {s : Reader} {held : List ℕ} {h : History} (se : Reade
           (λ (command, x) write. true≢false (sym (x .executed) ∙ speed-nacked se c identifier code «data» asks (made ∙ is) write .idle)),
           (λ few. let (command, row) = typed-row t in (command, request-executed se c identifier code «data» asks row (λ _. few))),
         );
-        nacks = λ is write. speed-nacked se c identifier code «data» asks (made ∙ is) write;
         read = λ is write before rest {m} {all} fr hearing.
             let bytes : bytesSent c ≡ replyImage identifier sign (NACK 3) =
             speed-nacked se c identifier code «data» asks (made ∙ is) write .sends

@@ -2,12 +2,16 @@
 -- NACK 2, and data that it does not have NACK 3.
 -- Assumes nothing.
 use mathlib.Core.Path.{_≡_, refl, sym, ap, _∙_}
-use mathlib.Core.Bool.{Bool, true, false, true≢false}
-use mathlib.Core.List.{List}
+use mathlib.Core.Bool.{Bool, true, false, _&&_, true≢false, and-eq-true-iff}
+use mathlib.Core.List.{List, []}
+use mathlib.Core.Option.{Option, none, some}
 use Prim.Native.Nat.{ℕ, _≤_}
+use lib.Dec.{eqb}
 use lib.ListN.{length}
+use borrow.Author.Tests.{eqb-true}
 use Rattle.ground.proofs.Laws.Choice.{by-test}
 use Rattle.link_spec.specs.Limits.{mostData}
+use Rattle.link_spec.specs.Events.{Name, NONE, FRAME, CHECK, SHORT, LONG, PAIR, ADDR}
 use Rattle.request_spec.specs.declared.command.Command.{Command}
 use Rattle.request_spec.specs.declared.command.Acceptance.{Acceptance}
 use Rattle.request_spec.specs.declared.command.Acceptance.the-variants.{Accepted, Faulty}
@@ -16,17 +20,20 @@ use Rattle.request_spec.specs.declared.command.Fault.the-variants.{UnknownCode,
 use Rattle.request_spec.specs.Acceptance.{isKnown, acceptance, isAccepted, nackOf, Accepts}
 use Rattle.request_spec.specs.Replies.{identifierOf, commandOf, dataOf}
 use Rattle.request_spec.proofs.Laws.Acceptance.{unknown-only, unknown-code, accepts, accepted, row-known, HasRow, known-row, accepted-short}
-use Rattle.reader_spec.specs.declared.reader.Asking.the-variants.{Right}
+use Rattle.reader_spec.specs.declared.reader.Asking.{Asking}
+use Rattle.reader_spec.specs.declared.reader.Asking.the-variants.{Nothing, Right}
 use Rattle.reader_spec.specs.declared.reader.Reader.{Reader}
 use Rattle.reader_spec.specs.Speeds.{servedAs, served, WritesAbove}
 use Rattle.reader_spec.specs.State.{stateOf}
 use Rattle.reader_spec.specs.Asking.{asking}
-use Rattle.reader_spec.specs.Answering.{Answered, answerSays, isFront, judged}
-use Rattle.reader_spec.specs.Sessions.{History, repeats, repeatsLast, asksFor, servedOf, isExecuted, Call, Done, ReaderSession}
+use Rattle.reader_spec.specs.Answering as carries
+use Rattle.reader_spec.specs.Answering.{Answered, answerSays, isFront, judged, CarriesContent}
+use Rattle.reader_spec.specs.Sessions.{Execution, History, repeats, repeatsLast, asksFor, servedOf, isFrame, bytesOf, dueAs, toSend, isExecuted, Call, Done, bytesSent, ReaderSession}
 use Rattle.reader_spec.proofs.Laws.Speeds.{served-row, above-row, above-faulty}
 use Rattle.reader_spec.proofs.Laws.Answering.{front-is, does-steps, steps-fine}
 use Rattle.reader_spec.proofs.Laws.Replies.{executed-answer}
-use Rattle.reader_spec.proofs.Laws.Sessions.{session-good, session-on, session-replies, call-framed}
+use Rattle.reader_spec.proofs.Laws.Sessions.{session-good, session-sends, session-on, check-nacked, session-replies, call-framed}
+use Rattle.reader_spec.proofs.Laws.Idle.{call-keeps}
 use Rattle.demands.specs.Exchanging.{Asks, RequestExecuted, RequestNacked}
 
 -- a call of a session on a FRAME that repeats nothing, with good buffers
@@ -40,7 +47,15 @@ module _ {alone : Bool} {s : Reader} {held : List ℕ} {h : History} (se : Reade
   served-is = ap (λ (l : List ℕ). served (h .fast) (commandOf l) (dataOf l)) (asks .content)
 
   new : repeatsLast h (c .input) ≡ false
-  new = ap (λ (l : List ℕ). repeats (h .last) (identifierOf l) (commandOf l)) (asks .content) ∙ asks .new
+  new = ap (λ (l : List ℕ). repeats (h .last) (identifierOf l) (commandOf l)) (asks .content) ∙ of (h .last) refl
+    where
+      of : (last : Option Execution) → h .last ≡ last → repeats last identifier code ≡ false
+      of none is = refl
+      of (some e) is =
+          by-test (λ (t : Bool). t ≡ false) (eqb (e .identifier) identifier && eqb (e .code) code)
+          (λ both. let (own, same) = and-eq-true-iff (eqb (e .identifier) identifier) (eqb (e .code) code) .0 both in
+          absurd (asks .new e is (eqb-true (e .identifier) identifier own) (eqb-true (e .code) code same)))
+          (λ _. refl)
 
   frame : asking (c .input .event) ≡ Right
   frame = ap asking (asks .event)
@@ -95,20 +110,48 @@ module _ {alone : Bool} {s : Reader} {held : List ℕ} {h : History} (se : Reade
 
   -- any other, if a frame can carry it, is answered NACK 2 where no row has its code
   pub code-nacked : ((other : List ℕ) (command : Command) → Accepts code other command → ⊥) → length «data» ≤ mostData → RequestNacked c 2
-  code-nacked none =
+  code-nacked never =
       faulty-nacked UnknownCode
       (ap (servedAs (h .fast) «data») (unknown-code code «data» (by-test (λ (t : Bool). t ≡ false) (isKnown code) (λ known. absurd (no-row (known-row code known))) (λ _. refl))))
     where
       no-row : HasRow code → ⊥
-      no-row (other, command, row) = none other command row
+      no-row (other, command, row) = never other command row
 
   -- and NACK 3 where rows have its code and none its data
   pub data-nacked : (other : List ℕ) {some : Command} → Accepts code other some → ((command : Command) → Accepts code «data» command → ⊥)
       → length «data» ≤ mostData
       → RequestNacked c 3
-  data-nacked other row none = faulty-nacked BadData (ap (servedAs (h .fast) «data») (bad-data (acceptance code «data») refl))
+  data-nacked other row never = faulty-nacked BadData (ap (servedAs (h .fast) «data») (bad-data (acceptance code «data») refl))
     where
       bad-data : (k : Acceptance) → acceptance code «data» ≡ k → acceptance code «data» ≡ Faulty BadData
-      bad-data (Accepted command) is = absurd (none command (accepts code «data» is))
+      bad-data (Accepted command) is = absurd (never command (accepts code «data» is))
       bad-data (Faulty BadData) is = is
       bad-data (Faulty UnknownCode) is = absurd (true≢false (sym (row-known row) ∙ unknown-only code «data» is))
+
+-- a call of a session on another event
+module _ {alone : Bool} {s : Reader} {held : List ℕ} {h : History} (se : ReaderSession alone s held h) (c : Call alone h s held) (done : Done c) where
+  -- CHECK gets NACK 1
+  pub check-answered : c .input .event ≡ CHECK → RequestNacked c 1
+  check-answered is =
+      let idle : isExecuted h (c .input) ≡ false = rw is refl in
+      record { done = done; idle = idle; sends = check-nacked se c done is; unchanged = call-keeps se c (λ _. idle) }
+
+  -- and what is neither that nor a FRAME no answer
+  pub other-silent : (CarriesContent (c .input .event) → ⊥) → bytesSent c ≡ []
+  other-silent bare = of (c .input .event) refl
+    where
+      nothing : asking (c .input .event) ≡ Nothing → bytesSent c ≡ []
+      nothing is =
+          let sends : bytesSent c ≡ toSend h (c .input) =
+          session-sends se c done
+          (λ again. absurd (true≢false (sym again ∙ ap (λ (a : Asking). isFrame a && repeatsLast h (c .input)) is))) in
+          sends ∙ ap (λ (a : Asking). bytesOf (c .input .content) (dueAs h (c .input) a)) is
+
+      of : (event : Name) → c .input .event ≡ event → bytesSent c ≡ []
+      of NONE is = nothing (ap asking is)
+      of FRAME is = absurd (bare (rw is carries.frame))
+      of CHECK is = absurd (bare (rw is carries.check))
+      of SHORT is = nothing (ap asking is)
+      of LONG is = nothing (ap asking is)
+      of PAIR is = nothing (ap asking is)
+      of ADDR is = nothing (ap asking is)
