@@ -1,5 +1,7 @@
 // Reads a script from standard input and writes one row for each record of it: the calls of the library, tried on any input. docs/BENCH.md
 // says what a script is.
+#![tactic(auto)]
+
 mod bench;
 mod buffer;
 mod masters;

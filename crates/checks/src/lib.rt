@@ -1,4 +1,6 @@
 // The check values: the FCS of the point line, the sum of the addressed line, and whether a content's check is right.
+#![tactic(auto)]
+
 mod kind;
 mod register;
 mod table;

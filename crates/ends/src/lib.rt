@@ -1,4 +1,6 @@
 // The first and the last row of a listing, each put to the front of a lent buffer, and how a tape ends.
+#![tactic(auto)]
+
 mod header;
 mod last;
 

@@ -1,5 +1,7 @@
 // Writes the request for a reader's device header, as it goes over the point line, and prints its bytes; then hands them to a receiver
 // and prints the content of the frame that it hears.
+#![tactic(auto)]
+
 use ground::put;
 use libc::{STDERR_FILENO, STDOUT_FILENO};
 use link::{Event, fresh_point, receive, write_point};

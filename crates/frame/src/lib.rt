@@ -1,4 +1,6 @@
 // The frames of both lines, written.
+#![tactic(auto)]
+
 mod content;
 mod writer;
 

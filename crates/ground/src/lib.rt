@@ -1,4 +1,6 @@
 // What every crate above stands on: refusals by their numbers, counts, bytes put into a lent buffer, a number's bytes, and the lesser of two numbers.
+#![tactic(auto)]
+
 mod laying;
 mod lesser;
 mod numbers;

@@ -1,4 +1,6 @@
 // The totals of a tape under way: fresh, bad, and ranked as a report.
+#![tactic(auto)]
+
 mod ranks;
 mod state;
 

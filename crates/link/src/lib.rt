@@ -1,4 +1,6 @@
 // The two serial lines of ProX card readers: what a receiver of either hears and, handed on, fresh receivers and the writers of frames.
+#![tactic(auto)]
+
 mod receiver;
 
 pub use frame::{write_addressed, write_point};

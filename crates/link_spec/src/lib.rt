@@ -1,5 +1,7 @@
 // What stations write and hear, as types alone: a station, what one byte makes a receiver do, the receiver's state, and what it tells. What is
 // so is in specs/; the crates `frame`, `station`, `rules` and `link` do it.
+#![tactic(auto)]
+
 mod event;
 mod receiver;
 mod station;

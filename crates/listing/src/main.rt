@@ -1,4 +1,6 @@
 // Lists a tape: its bytes on standard input, the listing on standard output.
+#![tactic(auto)]
+
 ghost use Rattle.std.specs.Prelude.{◌≤◌};
 ghost use Rattle.tape_spec.specs.Limits.{most_records};
 

@@ -1,4 +1,6 @@
 // The addressed reader's event log: an empty one, a new entry in it, and the answer to what a receiver heard.
+#![tactic(auto)]
+
 mod doing;
 mod lent;
 mod replies;

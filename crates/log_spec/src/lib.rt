@@ -1,5 +1,7 @@
 // The addressed reader's event log, as types alone: the record, what a request makes it do, and what the calls by value answer. What is so is
 // in specs/; the crates `log_core` and `log` do it.
+#![tactic(auto)]
+
 mod log;
 
 use link_spec::{LEAST_CONTENT, MOST_DATA};

@@ -1,4 +1,6 @@
 // How far a long input is read, for a terminal: when a notice of that is due, and its text.
+#![tactic(auto)]
+
 mod notice;
 mod progress;
 

@@ -1,5 +1,7 @@
 // The point reader: the call that does the steps with what was heard, and the part of a buffer to send. A fresh one and power-on are
 // handed on.
+#![tactic(auto)]
+
 mod asking;
 mod buffer;
 mod memory;

@@ -1,5 +1,7 @@
 // The point reader, as types alone: its state, and what it answers to requests and to one that is repeated. What is so is in specs/; the
 // crates `reader_state` and `reader` do it.
+#![tactic(auto)]
+
 mod reader;
 
 use link_spec::MOST_DATA;

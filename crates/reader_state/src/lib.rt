@@ -1,4 +1,6 @@
 // What a reader is between two calls, and what its model does: a fresh one, power-on, whether a state is bad, and which requests it executes.
+#![tactic(auto)]
+
 mod requests;
 mod speed;
 mod state;

@@ -1,4 +1,6 @@
 // A tape under way: what follows a kind byte, the receivers of its two lines, and whether it is bad or over.
+#![tactic(auto)]
+
 mod kind;
 mod receivers;
 mod state;

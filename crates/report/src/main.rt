@@ -1,4 +1,6 @@
 // Reports a tape: its bytes on standard input, the report on standard output once the tape is over.
+#![tactic(auto)]
+
 ghost use Rattle.std.specs.Prelude.{◌≡◌, ◌+◌, ◌≤◌, length, take};
 ghost use Rattle.ground.specs.Laying.{laid};
 ghost use Rattle.totals_spec.specs.Rows.{sums_row, most_row, report_text, most_text};

@@ -1,4 +1,6 @@
 // Typed requests of the point line: the data that each command accepts, the device header, and the writer of requests' frames.
+#![tactic(auto)]
+
 mod card;
 mod command;
 mod device;

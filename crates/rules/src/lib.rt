@@ -1,4 +1,6 @@
 // The rules of a receiver: what a byte means to it, and which event a stop byte tells.
+#![tactic(auto)]
+
 mod byte;
 mod stop;
 

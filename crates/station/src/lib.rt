@@ -1,4 +1,6 @@
 // A station: which address it may have, which it takes, and its receiver, fresh or outside a frame.
+#![tactic(auto)]
+
 mod address;
 mod receiver;
 

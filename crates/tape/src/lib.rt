@@ -1,4 +1,6 @@
 // A tape's bytes in, the listing's text out: header row, a row for each event chunk by chunk, last row.
+#![tactic(auto)]
+
 mod chunk;
 mod run;
 

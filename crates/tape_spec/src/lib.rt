@@ -1,5 +1,7 @@
 // A tape under way, as types alone: the two lines, what the tape's next byte is, the receivers of both lines, and what a call on a chunk answers.
 // What is so is in specs/; the crates `reel`, `rows` and `tape` do it.
+#![tactic(auto)]
+
 mod tape;
 
 pub use tape::{Ending, Line, Listed, Next, Receivers, Tape};

@@ -1,5 +1,7 @@
 // How far an input is read, as a notice on the terminal, for the programs; it is taken away before anything else is said there. What the
 // terminal and the clock answered is fixed by no statement; `begin` and `show` state what follows from it.
+#![tactic(auto)]
+
 ghost use Rattle.std.specs.Prelude.{◌≡◌};
 ghost use Rattle.terminal.specs.Asking.{Begun, after_show, Shown};
 

@@ -1,4 +1,6 @@
 // Numbers and bytes as text in a lent buffer.
+#![tactic(auto)]
+
 mod decimal;
 mod hex;
 mod marked;

@@ -1,4 +1,6 @@
 // A tape's bytes in, its report out: fresh totals, the bytes chunk by chunk, the report, and its rows.
+#![tactic(auto)]
+
 mod chunk;
 mod line;
 mod split;

@@ -1,4 +1,6 @@
 // Stuffing and wire images: the length of a content's image, and the image written.
+#![tactic(auto)]
+
 mod image;
 mod stuffing;
 

@@ -1,5 +1,6 @@
 // How a content stands on the wire, stuffed between start and stop: the bytes and limits that have names. What is so is in specs/; the crate
 // `wire` does it.
+#![tactic(auto)]
 
 // Start and stop of a wire image.
 pub const START: u8 = 0xFD;
