@@ -7,14 +7,14 @@ use crate::row::Row;
 use crate::values::put_value;
 use crate::writers::put_written;
 
-#[derive(Drop)]
+#[derive(Clone, Copy)]
 pub(crate) struct Bench {
     receivers: Receivers,
     device: Device,
 }
 
 // After a record: what lives on, and the record's row.
-#[derive(Drop)]
+#[derive(Clone, Copy)]
 pub(crate) struct Done {
     pub(crate) bench: Bench,
     pub(crate) row: Row,

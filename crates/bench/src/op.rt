@@ -4,7 +4,7 @@ use crate::receivers::{Line, ReceiverOp};
 use crate::values::Value;
 use crate::writers::Writer;
 
-#[derive(Drop)]
+#[derive(Clone, Copy)]
 pub(crate) enum Op {
     Write(Writer),
     Value(Value),
@@ -14,7 +14,7 @@ pub(crate) enum Op {
 }
 
 // The op that a code names, if there is one.
-#[derive(Drop)]
+#[derive(Clone, Copy)]
 pub(crate) enum Coded {
     Known(Op),
     Unknown,

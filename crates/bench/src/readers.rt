@@ -10,7 +10,7 @@ use reader::{Answer, Buffer, Memory, Parameters, Reader, fresh_reader, to_send};
 use request::{CELL_LENGTH, HEADER_LENGTH, SETTINGS_LENGTH, header};
 
 // A reader with its device header and its two buffers.
-#[derive(Drop)]
+#[derive(Clone, Copy)]
 pub(crate) struct Device {
     reader: Reader,
     store: [u8; MOST_ROOM],
@@ -19,7 +19,7 @@ pub(crate) struct Device {
 }
 
 // What a record asks of the reader: an answer, a power-on, both buffers, a fresh reader, or a state or a device header to be put.
-#[derive(Drop)]
+#[derive(Clone, Copy)]
 pub(crate) enum ReaderOp {
     Answer,
     PowerOn,
@@ -30,14 +30,14 @@ pub(crate) enum ReaderOp {
 }
 
 // After such a record: the device, and the record's row.
-#[derive(Drop)]
+#[derive(Clone, Copy)]
 pub(crate) struct Served {
     pub(crate) device: Device,
     pub(crate) row: Row,
 }
 
 // How many bytes of each buffer's front are lent.
-#[derive(Drop)]
+#[derive(Clone, Copy)]
 struct Rooms {
     store: usize,
     out: usize,

@@ -8,20 +8,20 @@ use ground::number;
 use link::{Event, Heard, MASTER, Phase, Receiver, Station, fresh_addressed, fresh_point, receive};
 use wire::MOST_CONTENT;
 
-#[derive(Drop)]
+#[derive(Clone, Copy)]
 pub(crate) struct Receivers {
     point: Receiver,
     addressed: Receiver,
 }
 
-#[derive(Drop)]
+#[derive(Clone, Copy)]
 pub(crate) enum Line {
     Point,
     Addressed,
 }
 
 // What a record asks of the receivers: one call of a line's, a new station on the addressed line, or a state to be put.
-#[derive(Drop)]
+#[derive(Clone, Copy)]
 pub(crate) enum ReceiverOp {
     Hear(Line),
     NewStation,
@@ -29,7 +29,7 @@ pub(crate) enum ReceiverOp {
 }
 
 // After such a record: the receivers, and the record's row.
-#[derive(Drop)]
+#[derive(Clone, Copy)]
 pub(crate) struct Listened {
     pub(crate) receivers: Receivers,
     pub(crate) row: Row,

@@ -10,7 +10,7 @@ const MOST_LETTERS: usize = 2 + 2 * (3 * MOST_ROOM) + 1;
 
 // The row's text so far, the first `length` letters. It goes in by value and comes back with a field more: the prover follows that in two
 // thirds of the time that a lent buffer and a place in it take.
-#[derive(Drop)]
+#[derive(Clone, Copy)]
 pub(crate) struct Row {
     letters: [u8; MOST_LETTERS],
     length: usize,

@@ -5,14 +5,14 @@ use crate::op::{Coded, Op, with_code};
 use libc::STDIN_FILENO;
 
 // What the script goes on with: a record, of this op with this code and a payload of so many bytes, or none.
-#[derive(Drop)]
+#[derive(Clone, Copy)]
 pub(crate) enum Next {
     Record(Op, u8, usize),
     None(Ending),
 }
 
 // Why no record follows: the script ends, in a record or not, it has an unknown op, or a read failed.
-#[derive(Drop)]
+#[derive(Clone, Copy)]
 pub(crate) enum Ending {
     End,
     Cut,
@@ -21,7 +21,7 @@ pub(crate) enum Ending {
 }
 
 // A part of the script: it was read, the script ended before that, or a read failed.
-#[derive(Drop)]
+#[derive(Clone, Copy)]
 enum Part {
     Whole,
     Ended,

@@ -3,7 +3,7 @@ use crate::row::Row;
 use checks::{fcs, residue, sum};
 use wire::image_length;
 
-#[derive(Drop)]
+#[derive(Clone, Copy)]
 pub(crate) enum Value {
     ImageLength,
     Fcs,

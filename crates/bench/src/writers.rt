@@ -6,7 +6,7 @@ use ground::Counted;
 use link::{write_addressed, write_point};
 use request::write_request;
 
-#[derive(Drop)]
+#[derive(Clone, Copy)]
 pub(crate) enum Writer {
     Point,
     Addressed,
@@ -14,7 +14,7 @@ pub(crate) enum Writer {
 }
 
 // What a writer answered, unless the payload is shorter than its fixed part.
-#[derive(Drop)]
+#[derive(Clone, Copy)]
 enum Tried {
     Short,
     Written(Counted),

@@ -6,7 +6,7 @@ use crate::register::fcs;
 use crate::total::sum;
 
 // The FCS on the point line, the sum on the addressed line.
-#[derive(Drop)]
+#[derive(Clone, Copy)]
 pub enum Check {
     Fcs,
     Sum,

@@ -5,7 +5,7 @@ ghost use Rattle.ground.specs.Laying.{laid, ended, put as put_of};
 use crate::refusal::Refusal;
 
 // Where the bytes that a call put into a buffer end; on a refusal, where they should have begun.
-#[derive(Drop)]
+#[derive(Clone, Copy)]
 pub struct Placed {
     pub refusal: Refusal,
     pub end: usize,

@@ -2,7 +2,7 @@
 ghost use Rattle.std.specs.Prelude.{◌≡◌};
 ghost use Rattle.ground.specs.Refusals.{number as number_of, tally, refused as refused_of, counted as counted_of};
 
-#[derive(Drop)]
+#[derive(Clone, Copy)]
 pub enum Refusal {
     None,
     NoRoom,
@@ -18,7 +18,7 @@ pub enum Refusal {
 }
 
 // A count of bytes; 0 where the call refused.
-#[derive(Drop)]
+#[derive(Clone, Copy)]
 pub struct Counted {
     pub refusal: Refusal,
     pub count: usize,

@@ -9,7 +9,7 @@ use rules::{at_byte, at_stop};
 use station::{is_bad_state, outside};
 
 // The first event inside a piece, and how many bytes were taken, up to and with its byte.
-#[derive(Drop)]
+#[derive(Clone, Copy)]
 struct Found {
     verdict: Verdict,
     taken: usize,

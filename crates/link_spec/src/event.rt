@@ -1,5 +1,5 @@
 // What a receiver tells of a stream.
-#[derive(Drop)]
+#[derive(Clone, Copy)]
 pub enum Event {
     None,
     Frame,
@@ -11,7 +11,7 @@ pub enum Event {
 }
 
 // An event, and how many bytes of the content so far it carries: all before the check for a frame, its check right or wrong.
-#[derive(Drop)]
+#[derive(Clone, Copy)]
 pub struct Verdict {
     pub event: Event,
     pub length: usize,

@@ -5,7 +5,7 @@ use ground::Refusal;
 use wire_spec::MOST_CONTENT;
 
 // Where a receiver is: outside a frame, inside one, or inside one after an FF that waits for its partner.
-#[derive(Drop)]
+#[derive(Clone, Copy)]
 pub enum Phase {
     Outside,
     Inside,
@@ -14,7 +14,7 @@ pub enum Phase {
 
 // What the receiver does at a byte: nothing, begin a frame, wait for the partner of an FF, keep a content byte, end the frame, or give
 // the frame up and tell why.
-#[derive(Drop)]
+#[derive(Clone, Copy)]
 pub enum Turn {
     Rest,
     Begin,
@@ -25,7 +25,7 @@ pub enum Turn {
 }
 
 // A receiver between two calls: its station, where it is, and the first `count` bytes of `content` as the content so far.
-#[derive(Drop)]
+#[derive(Clone, Copy)]
 pub struct Receiver {
     pub station: Station,
     pub phase: Phase,
@@ -34,7 +34,7 @@ pub struct Receiver {
 }
 
 // A receiver for a station. With a refusal comes one that refuses every call.
-#[derive(Drop)]
+#[derive(Clone, Copy)]
 pub struct Fresh {
     pub refusal: Refusal,
     pub receiver: Receiver,
@@ -42,7 +42,7 @@ pub struct Fresh {
 
 // What one call heard: the receiver for the next call, the event with the first `length` bytes of `content`, and how many bytes of the
 // piece were taken.
-#[derive(Drop)]
+#[derive(Clone, Copy)]
 pub struct Heard {
     pub refusal: Refusal,
     pub receiver: Receiver,

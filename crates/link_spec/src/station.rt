@@ -6,7 +6,7 @@ pub const BROADCAST: u8 = 0x7F;
 pub const LAST_ADDRESS: u8 = 0xFC;
 
 // The point line, or the addressed line as the station with this address hears it.
-#[derive(Drop)]
+#[derive(Clone, Copy)]
 pub enum Station {
     Point,
     Addressed(u8),

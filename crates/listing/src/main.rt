@@ -13,7 +13,7 @@ use terminal::{begin, hide, is_terminal, show};
 const DONE: i32 = 3;
 
 // Why a tape is not listed to its end.
-#[derive(Drop)]
+#[derive(Clone, Copy)]
 enum Failure {
     Read,
     Write,
@@ -21,14 +21,14 @@ enum Failure {
 }
 
 // Where the listing stands: a block of this many bytes is listed and the next one is read, nothing further of the tape is, or nothing can be.
-#[derive(Drop)]
+#[derive(Clone, Copy)]
 enum Course {
     Reading(usize),
     Over,
     Failed(Failure),
 }
 
-#[derive(Drop)]
+#[derive(Clone, Copy)]
 struct Stage {
     tape: Tape,
     course: Course,

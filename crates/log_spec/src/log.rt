@@ -5,7 +5,7 @@ use ground::{Counted, Refusal};
 
 // The bodies of the last entries in a ring, 8 bytes to a place, of which `start` is the oldest's; how many are held, how many of these, the
 // newest, wait to be read; and the identifier of the next entry, from which those of the held ones follow.
-#[derive(Drop)]
+#[derive(Clone, Copy)]
 pub struct Log {
     pub bodies: [u8; RING_LENGTH],
     pub start: usize,
@@ -15,7 +15,7 @@ pub struct Log {
 }
 
 // What a request makes the log do: read the oldest waiting entry, delete it, let all that are held wait, or none; or answer with a NACK.
-#[derive(Drop)]
+#[derive(Clone, Copy)]
 pub enum Doing {
     Read,
     Delete,
@@ -25,14 +25,14 @@ pub enum Doing {
 }
 
 // The log with a new entry; as it was where the call refused.
-#[derive(Drop)]
+#[derive(Clone, Copy)]
 pub struct Appended {
     pub refusal: Refusal,
     pub log: Log,
 }
 
 // What was written to the out buffer for one event, and the log for the next call.
-#[derive(Drop)]
+#[derive(Clone, Copy)]
 pub struct Answered {
     pub counted: Counted,
     pub log: Log,

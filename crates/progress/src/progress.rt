@@ -3,7 +3,7 @@ ghost use Rattle.std.specs.Prelude.{◌≡◌};
 ghost use Rattle.progress.specs.Progress.{capped, fresh_progress, after_block, is_due, after_notice, seconds as seconds_of};
 
 // Whether notices are wanted, whether one stands on the terminal, how many bytes are read, and what the clock shows when the next notice is due.
-#[derive(Drop)]
+#[derive(Clone, Copy)]
 pub struct Progress {
     pub wanted: bool,
     pub shown: bool,

@@ -3,7 +3,7 @@ use ground::Refusal;
 use request_spec::{CELL_LENGTH, SETTINGS_LENGTH};
 
 // The values of a reader's parameters.
-#[derive(Drop)]
+#[derive(Clone, Copy)]
 pub struct Parameters {
     pub speed: u8,
     pub settings: [u8; SETTINGS_LENGTH],
@@ -11,7 +11,7 @@ pub struct Parameters {
 }
 
 // The last command executed since power-on, if any: identifier, command, and the length of the reply that the store holds.
-#[derive(Drop)]
+#[derive(Clone, Copy)]
 pub enum Memory {
     None,
     Last {
@@ -23,7 +23,7 @@ pub enum Memory {
 
 // A reader between two calls: its three parameters, whether its model has the speeds above 115200 baud, and the memory of the last
 // executed command.
-#[derive(Drop)]
+#[derive(Clone, Copy)]
 pub struct Reader {
     pub parameters: Parameters,
     pub fast: bool,
@@ -31,14 +31,14 @@ pub struct Reader {
 }
 
 // A reader after power-on; as it was where the call refused.
-#[derive(Drop)]
+#[derive(Clone, Copy)]
 pub struct Powered {
     pub refusal: Refusal,
     pub reader: Reader,
 }
 
 // What an event asks of a reader: nothing that it answers, or an answer to a frame whose check is wrong, or right.
-#[derive(Drop)]
+#[derive(Clone, Copy)]
 pub enum Asking {
     Nothing,
     Wrong,
@@ -46,7 +46,7 @@ pub enum Asking {
 }
 
 // A frame that is new, or one that repeats the last executed command, whose stored reply is so long.
-#[derive(Drop)]
+#[derive(Clone, Copy)]
 pub enum Repeat {
     New,
     Stored(usize),
@@ -54,14 +54,14 @@ pub enum Repeat {
 
 // The two buffers that a reader is lent: the out buffer, which holds a reply as it is written, and the store, which keeps the last executed
 // command's.
-#[derive(Drop)]
+#[derive(Clone, Copy)]
 pub enum Buffer {
     Out,
     Store,
 }
 
 // What one call answers: the reader for the next call, and the bytes to send, the first `length` of a buffer.
-#[derive(Drop)]
+#[derive(Clone, Copy)]
 pub struct Answer {
     pub refusal: Refusal,
     pub reader: Reader,

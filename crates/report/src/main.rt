@@ -22,7 +22,7 @@ const DONE: i32 = 3;
 const MOST_TEXT: usize = 277;
 
 // Why a tape has no report.
-#[derive(Drop)]
+#[derive(Clone, Copy)]
 enum Failure {
     Read,
     Write,
@@ -31,14 +31,14 @@ enum Failure {
 }
 
 // Where the reading stands: a block of this many bytes is added and the next one is read, nothing further of the tape is, or nothing can be.
-#[derive(Drop)]
+#[derive(Clone, Copy)]
 enum Course {
     Reading(usize),
     Over,
     Failed,
 }
 
-#[derive(Drop)]
+#[derive(Clone, Copy)]
 struct Stage {
     totals: Totals,
     course: Course,

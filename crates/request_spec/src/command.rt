@@ -2,7 +2,7 @@
 use crate::parameter::Parameter;
 
 // The cards that an antenna reads.
-#[derive(Drop)]
+#[derive(Clone, Copy)]
 pub enum Card {
     Marin,
     Hid,
@@ -11,7 +11,7 @@ pub enum Card {
 
 // What a request asks for: the device header (code 00), to write or read a parameter (01, 02), to read an EM-Marin, HID or Motorola
 // card (10, 14, 18).
-#[derive(Drop)]
+#[derive(Clone, Copy)]
 pub enum Command {
     Header,
     Write(Parameter),
@@ -20,13 +20,13 @@ pub enum Command {
 }
 
 // Why a request is not executed: its code does not exist, or it does not accept the data.
-#[derive(Drop)]
+#[derive(Clone, Copy)]
 pub enum Fault {
     UnknownCode,
     BadData,
 }
 
-#[derive(Drop)]
+#[derive(Clone, Copy)]
 pub enum Acceptance {
     Accepted(Command),
     Faulty(Fault),

@@ -7,7 +7,7 @@ pub const SIGN: u8 = 0x2A;
 pub const ACK: u8 = 0x55;
 
 // What a reply says; none where the call refused. Its data is what `master::data_of` hands back.
-#[derive(Drop)]
+#[derive(Clone, Copy)]
 pub enum Meaning {
     None,
     Ack,
@@ -15,7 +15,7 @@ pub enum Meaning {
     Data,
 }
 
-#[derive(Drop)]
+#[derive(Clone, Copy)]
 pub struct Reading {
     pub refusal: Refusal,
     pub meaning: Meaning,

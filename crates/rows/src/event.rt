@@ -116,7 +116,7 @@ fn letter(line: Line) -> [u8; 3]
 const MOST_WORD: usize = 6;
 
 // A name and the blank after it: they stand in the first `length` places.
-#[derive(Drop)]
+#[derive(Clone, Copy)]
 struct Word {
     letters: [u8; MOST_WORD],
     length: usize,

@@ -11,7 +11,7 @@ use rows::put_heard;
 use tape_spec::{LEAST_ROOM, Line, MOST_RECORDS};
 
 // The receiver after the records that were heard, their count, and where their rows end.
-#[derive(Drop)]
+#[derive(Clone, Copy)]
 pub(crate) struct Ran {
     pub(crate) receiver: Receiver,
     pub(crate) count: usize,

@@ -3,7 +3,7 @@ use ground::Refusal;
 use link_spec::Receiver;
 
 // The line on which a byte was heard: the point line, or an addressed line as its master hears it.
-#[derive(Drop)]
+#[derive(Clone, Copy)]
 pub enum Line {
     Point,
     Addressed,
@@ -11,7 +11,7 @@ pub enum Line {
 
 // What the next byte of a tape is: a record's kind, its body, or nothing that is read, since an unknown kind came, or a byte after the last
 // permitted record.
-#[derive(Drop)]
+#[derive(Clone, Copy)]
 pub enum Next {
     Kind,
     Body(Line),
@@ -19,14 +19,14 @@ pub enum Next {
     Full,
 }
 
-#[derive(Drop)]
+#[derive(Clone, Copy)]
 pub struct Receivers {
     pub point: Receiver,
     pub addressed: Receiver,
 }
 
 // A tape between two calls: the whole records so far, what the next byte is, and the receivers of both lines.
-#[derive(Drop)]
+#[derive(Clone, Copy)]
 pub struct Tape {
     pub records: u32,
     pub next: Next,
@@ -34,7 +34,7 @@ pub struct Tape {
 }
 
 // What one call listed: the tape for the next call, how many bytes of the chunk were taken, and how many of the buffer were written.
-#[derive(Drop)]
+#[derive(Clone, Copy)]
 pub struct Listed {
     pub refusal: Refusal,
     pub tape: Tape,
@@ -43,7 +43,7 @@ pub struct Listed {
 }
 
 // How a tape ends.
-#[derive(Drop)]
+#[derive(Clone, Copy)]
 pub enum Ending {
     End,
     Cut,

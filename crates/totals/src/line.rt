@@ -13,7 +13,7 @@ use wire::image_length;
 use wire_spec::START;
 
 // A line's receiver, and its sums.
-#[derive(Drop)]
+#[derive(Clone, Copy)]
 pub(crate) struct Account {
     pub(crate) receiver: Receiver,
     pub(crate) sums: Sums,

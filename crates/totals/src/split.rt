@@ -9,7 +9,7 @@ use reel::{after_kind, kind_of};
 use tape_spec::{Line, MOST_RECORDS, Next};
 
 // The records after a part, what its next byte is, and how many bytes were heard on either line.
-#[derive(Drop)]
+#[derive(Clone, Copy)]
 pub(crate) struct Parted {
     pub(crate) records: u32,
     pub(crate) next: Next,

@@ -3,7 +3,7 @@ use ground::Refusal;
 use tape_spec::{Ending, Line, Tape};
 
 // What a line has so far: frames listed, bytes heard, bytes inside the images of the listed frames, and bytes reserved for these.
-#[derive(Drop)]
+#[derive(Clone, Copy)]
 pub struct Sums {
     pub frames: u64,
     pub heard: u64,
@@ -12,7 +12,7 @@ pub struct Sums {
 }
 
 // A tape between two calls, and the sums of both lines.
-#[derive(Drop)]
+#[derive(Clone, Copy)]
 pub struct Totals {
     pub tape: Tape,
     pub point: Sums,
@@ -20,14 +20,14 @@ pub struct Totals {
 }
 
 // What a call on a chunk answers: the totals for the next call.
-#[derive(Drop)]
+#[derive(Clone, Copy)]
 pub struct Added {
     pub refusal: Refusal,
     pub totals: Totals,
 }
 
 // A line's part of a report; the difference is what was reserved less what was heard.
-#[derive(Drop)]
+#[derive(Clone, Copy)]
 pub struct LineReport {
     pub line: Line,
     pub sums: Sums,
@@ -35,7 +35,7 @@ pub struct LineReport {
 }
 
 // Both lines, the one that was heard more first, how the tape ended, and its whole records.
-#[derive(Drop)]
+#[derive(Clone, Copy)]
 pub struct Report {
     pub refusal: Refusal,
     pub first: LineReport,
