@@ -1,0 +1,18 @@
+-- `total::sum`: at each turn, the total so far and that of the bytes that are left make the total of all bytes, modulo 256.
+-- Assumes nothing.
+use mathlib.Core.Path.{ap}
+use native.Mathlib.Omega.{arith}
+use lib.ListN.{drop_of_length-le}
+use Rattle.ground.proofs.Laws.Lists.{drop-next}
+use Rattle.checks.specs.Sum.{total, sum}
+use Rattle.checks.proofs.total.sum.Goals as goal
+
+pub loop-i-preserved : goal.loop-i-preserved
+unfolding total
+loop-i-preserved c =
+    omega (arith, ap total (drop-next c.args.bytes.now c.loop-i.i c.loop-i-test.true))
+
+pub returns : goal.returns
+unfolding total sum
+returns c =
+    omega (arith, ap total (drop_of_length-le c.args.bytes.now c.loop-i-test.false))
