@@ -77,6 +77,7 @@ address_plain {b} good (first {own} f g t) = takes-plain own b good t
 -- a content begins with an address that is taken, and goes on with it
 taken-first : {station : Station} (k : List ℕ) (b : ℕ) → Address station (length k) b true → AddressTaken station (k ++ (b ∷ []))
 taken-first [] b (first f g t) = t
+taken-first (_ ∷ _) b a = elim a [ ]
 
 taken-later : {station : Station} (k : List ℕ) (b : ℕ) → AddressTaken station k → Later station (length k) → AddressTaken station (k ++ (b ∷ []))
 taken-later [] b taken on_point = tt
