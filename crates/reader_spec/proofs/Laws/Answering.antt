@@ -102,11 +102,21 @@ unfit-is i (short asks few) = of i.event asks
     of : (event : Name) → CarriesContent event → fits (asking event) i.content ≡ false
     of FRAME frame = front-short i.content few
     of CHECK check = front-short i.content few
+    of NONE c = elim c [ ]
+    of SHORT c = elim c [ ]
+    of LONG c = elim c [ ]
+    of PAIR c = elim c [ ]
+    of ADDR c = elim c [ ]
 unfit-is i (long asks many) = of i.event asks
   where
     of : (event : Name) → CarriesContent event → fits (asking event) i.content ≡ false
     of FRAME frame = front_long i.content many
     of CHECK check = front_long i.content many
+    of NONE c = elim c [ ]
+    of SHORT c = elim c [ ]
+    of LONG c = elim c [ ]
+    of PAIR c = elim c [ ]
+    of ADDR c = elim c [ ]
 
 unfit-row : (i : Input) → fits (asking i.event) i.content ≡ false → Unfit i
 unfit-row i = of i.event refl

@@ -85,7 +85,7 @@ kept_same true h held store kept single = kept
 kept_same false h held store kept single = absurd (true≢false (sym single))
 
 -- so after any sequence of them all is as before
-pub idle-keeps : {alone : Bool} {s t : Reader} {held kept : List ℕ} {h : History} → ReaderSession false s held h → Idle alone h s held t kept
+pub idle-keeps : {alone : Bool} {s : Reader} {held : List ℕ} {h : History} {t : Reader} {kept : List ℕ} → ReaderSession false s held h → Idle alone h s held t kept
     → Same alone h s held t kept
 idle-keeps se rests = record { session = se; state = refl; store = λ _. refl }
 idle-keeps {alone} {h = h} se (passes {t} {kept} i c idle) =

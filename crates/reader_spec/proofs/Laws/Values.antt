@@ -65,7 +65,8 @@ left-powered true p value = powered-twice p value
 left-powered false p value = refl
 
 -- so does every sequence of such calls, and of power-ons but for a speed above 7
-pub unwritten-value : {alone with_power : Bool} {p : Parameter} {s t : Reader} {held kept : List ℕ} {h k : History} → ReaderSession alone s held h
+pub unwritten-value : {alone : Bool} {p : Parameter} {s : Reader} {held : List ℕ} {h : History} {t : Reader} {kept : List ℕ} {k : History} {with_power : Bool}
+    → ReaderSession alone s held h
     → Unwritten alone p s held h t kept k with_power
     → KeptValue alone p h t kept k with_power
 unwritten-value se still = record { session = se; value = refl }

@@ -153,6 +153,7 @@ due-only n motorola is = of_length n for_motorola is
 due-is : {code : ℕ} {«data» : List ℕ} {command : Command} {n : ℕ} → Accepts code «data» command → Due code «data» n
     → (is_due command n ≡ true) × (eqb code 0x01 ≡ false)
 due-is header for_header = (refl, refl)
+due-is (write p value _) due = elim due [ ]
 due-is (read Speed) for_speed = (refl, refl)
 due-is (read Settings) for_settings = (refl, refl)
 due-is (read Cell) for_cell = (refl, refl)

@@ -1,0 +1,25 @@
+-- `image::image_length`: its test is that of `length_asked`, and a content within the limit has no more than twice as many bytes stuffed.
+-- Assumes nothing.
+use mathlib.Core.Path.{sym, ap, ◌∙◌}
+use Prim.Native.Nat.{ℕ, ◌+◌}
+use native.Mathlib.Omega.{arith}
+use Rattle.ground.specs.Refusals.{counted}
+use Rattle.wire_spec.proofs.Laws.Stuffing.{length-stuffing, specials-most}
+use Rattle.wire_spec.proofs.Laws.Image.{length-image, image-stuffing}
+use Rattle.wire_spec.proofs.Laws.Writing.{length-refused, length-answered}
+use Rattle.wire.proofs.image.image_length.Goals as goal
+
+pub returns-then-content-gt-MOST_CONTENT : goal.returns-then-content-gt-MOST_CONTENT
+returns-then-content-gt-MOST_CONTENT c = c.refused.ensures ∙ sym (length-refused c.args.content.now (omega arith))
+
+pub overflow_add-stuffed_length : goal.overflow_add-stuffed_length
+overflow_add-stuffed_length c =
+    let content = c.args.content.now in
+    omega (arith, c.stuffed_length.ensures, length-stuffing content, specials-most content)
+
+pub returns : goal.returns
+returns c =
+    let content = c.args.content.now in
+    c.of.ensures
+    ∙ ap counted (ap (λ (n : ℕ). 2 + n) c.stuffed_length.ensures ∙ sym (image-stuffing content) ∙ length-image content)
+    ∙ sym (length-answered content (omega arith))
