@@ -1,0 +1,15 @@
+-- `decimal::put_decimal`: at each turn, the digits of what is left, and after them those that stand in the text, are those asked for.
+-- Assumes nothing.
+use mathlib.Core.Path.{◌≡◌}
+use mathlib.Core.List.{◌++◌}
+use Prim.Native.Nat.{◌≤◌}
+use lib.ListN.{length, drop}
+use Rattle.text.specs.Decimal.{most_digits, spelled, decimal}
+use Rattle.text.proofs.decimal.put_decimal.Given as goal
+
+abbrev pub invariant-loop-from : goal.invariant-loop-from
+invariant-loop-from l =
+    (l.from ≤ most_digits) × (length l.text ≡ most_digits) × (spelled l.from l.left ++ drop l.from l.text ≡ decimal l.n)
+
+abbrev pub decreases-loop-from : goal.decreases-loop-from
+decreases-loop-from l = l.from

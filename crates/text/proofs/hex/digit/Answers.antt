@@ -1,0 +1,13 @@
+-- `hex::digit`: its test is that of `digit`, a number below ten or not.
+-- Assumes nothing.
+use borrow.Author.Tests.{lt-ltb, le-ltb}
+use Rattle.text.specs.Hex.{digit}
+use Rattle.text.proofs.hex.digit.Goals as goal
+
+pub returns-then-n-lt10 : goal.returns-then-n-lt10
+unfolding digit
+returns-then-n-lt10 c = simp (lt-ltb _ _ c.if-n-lt10.true)
+
+pub returns-else-n-lt10 : goal.returns-else-n-lt10
+unfolding digit
+returns-else-n-lt10 c = simp (le-ltb _ _ c.if-n-lt10.false)
