@@ -1,0 +1,17 @@
+-- `ring::is_bad`: the three tests are those of `bad_numbers`, in its order.
+-- Assumes nothing.
+use borrow.Author.Tests.{lt-ltb, le-ltb}
+use Rattle.event_log.proofs.ring.is_bad.Statement.{statement}
+use Rattle.event_log.proofs.ring.is_bad.Tie as tie
+
+returns : tie.Need-returns
+returns c = simp (lt-ltb _ _ c.if1.true)
+
+returns-2 : tie.Need-returns-2
+returns-2 c = simp (le-ltb _ _ c.before.if1.false, lt-ltb _ _ c.if2.true)
+
+returns-3 : tie.Need-returns-3
+returns-3 c = simp (le-ltb _ _ c.before.if1.false, le-ltb _ _ c.if2.false)
+
+pub is-bad-spec : {M : Type 1} → statement M
+is-bad-spec = tie.close (tie.spec returns returns-2 returns-3)
