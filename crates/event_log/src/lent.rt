@@ -6,9 +6,9 @@ ghost use Rattle.event_log_spec.specs.Answering.{input_of, Answers};
 
 use crate::replies::answered;
 use crate::ring::appended;
+use event_log_spec::{BODY_LENGTH, Log};
 use ground::{Counted, Refusal};
 use link::Event;
-use event_log_spec::{BODY_LENGTH, Log};
 
 // Makes a new entry with this body. It waits; a full log drops the oldest. Refuses a bad log (BadState), and then leaves it as it was.
 pub fn append(log: &mut Log, body: [u8; BODY_LENGTH]) -> Refusal

@@ -6,6 +6,6 @@ mod lent;
 mod replies;
 mod ring;
 
-pub use lent::{answer, append};
 pub use event_log_spec::{BODY_LENGTH, LEAST_FRONT, Log, MOST_FRONT, MOST_HELD, RING_LENGTH, ROOM};
+pub use lent::{answer, append};
 pub use ring::empty_log;

@@ -9,9 +9,9 @@ ghost use Rattle.event_log_spec.specs.Answering.{input_of, is_frame, is_front, r
 
 use crate::doing::{doing, waiting_after};
 use crate::ring::{is_bad, oldest_waiting};
+use event_log_spec::{Answered, Doing, LEAST_FRONT, Log, MOST_FRONT, ROOM};
 use ground::{Counted, Refusal};
 use link::{Event, MASTER, write_addressed};
-use event_log_spec::{Answered, Doing, LEAST_FRONT, Log, MOST_FRONT, ROOM};
 use request_spec::{ACK, SIGN};
 
 // Answers what a receiver heard: an event with its content, the check cut off. Only a FRAME has an answer. Refuses a bad log (BadState), `out`

@@ -4,8 +4,8 @@ ghost use Rattle.event_log_spec.specs.Limits.{most_held, body_length, identifier
 ghost use Rattle.event_log_spec.specs.Log.{empty_log, bad_numbers, bad_log, identifier_before, oldest_waiting};
 ghost use Rattle.event_log_spec.specs.Appending.{one_more, with_entry, Appends};
 
-use ground::{Refusal, low_first, put};
 use event_log_spec::{Appended, BODY_LENGTH, ENTRY_LENGTH, Log, MOST_HELD, RING_LENGTH};
+use ground::{Refusal, low_first, put};
 
 // How many identifiers of 32 bits there are.
 const IDENTIFIERS: u64 = 0x1_0000_0000;

@@ -28,8 +28,8 @@ pub fn list(tape: Tape, chunk: &[u8], out: &mut [u8]) -> Listed
 
 // The same, of a tape that no row of the refusal table names.
 fn go(tape: Tape, chunk: &[u8], out: &mut [u8]) -> Listed
-    requires tape_value { bad_tape tape ≡ false }
-    requires least_room_in_bounds { least_room ≤ length out.old }
+    requires tape_good { bad_tape tape ≡ false }
+    requires out_roomy { least_room ≤ length out.old }
     ensures { listed_out result out.new ≡ text_written (going (length out.old) tape chunk.now) out.old }
 {
     let mut records = tape.records;

@@ -29,10 +29,10 @@ pub(crate) fn run(
     out: &mut [u8],
     at: usize,
 ) -> Ran
-    requires receiver_value { bad_receiver receiver ≡ false }
-    requires records_lt_most_records { records < most_records }
-    requires chunk_nonzero { 0 < length chunk.now }
-    requires piece_nonzero { 0 < length piece.old }
+    requires receiver_good { bad_receiver receiver ≡ false }
+    requires record_permitted { records < most_records }
+    requires chunk_some { 0 < length chunk.now }
+    requires piece_some { 0 < length piece.old }
     requires at_in_bounds { at ≤ length out.old }
     ensures { HeardOf line receiver records chunk.now out.old at (left result out.new) }
 {
@@ -43,10 +43,10 @@ pub(crate) fn run(
 
 // Gathers the bodies into `piece`, at most `most`, and answers how many there are.
 fn gather(kind: u8, most: usize, chunk: &[u8], piece: &mut [u8]) -> usize
-    requires chunk_nonzero { 0 < length chunk.now }
-    requires most_nonzero { 0 < most }
+    requires chunk_some { 0 < length chunk.now }
+    requires most_some { 0 < most }
     requires most_in_bounds { most ≤ length piece.old }
-    ensures upper_bound { result ≤ length piece.new }
+    ensures within { result ≤ length piece.new }
     ensures gathered { Gathered kind most chunk.now (take result piece.new) }
 {
     // a body stands at every other place, from the first on
@@ -69,8 +69,8 @@ fn hear(
     out: &mut [u8],
     at: usize,
 ) -> Ran
-    requires receiver_value { bad_receiver receiver ≡ false }
-    requires bodies_bound { records + length bodies.now ≤ most_records }
+    requires receiver_good { bad_receiver receiver ≡ false }
+    requires bodies_permitted { records + length bodies.now ≤ most_records }
     requires at_in_bounds { at ≤ length out.old }
     ensures { left result out.new
         ≡ run_left (running (length out.old - at) line records receiver bodies.now) out.old at }

@@ -21,7 +21,7 @@ use Rattle.tape_spec.specs.Whole.{kind_of, receiver_on, with_receiver}
 use Rattle.tape_spec.specs.Taping.{tape_of, after_kind, is_over, Went, standing, going, ListedOut, listed_to, text_written, bad_tape}
 use Rattle.tape_spec.proofs.Laws.Fine.{kind-fine, with-receiver-fine, on_fine, receivers-fine, body-permitted, tape-fine}
 use Rattle.tape_spec.proofs.Laws.Taping.{went_after}
-use Rattle.tape.specs.Running.{linked, laced, Run, running, Left, left, RunHeard}
+use Rattle.tape.specs.Running.{linked, laced, Run, running, Left, RunHeard}
 use Rattle.tape.proofs.Laws.Going.{going-over, going-full, going-kind, running-some, running-within, running-good, goes_on}
 
 -- what a result says, over this buffer

@@ -1,0 +1,133 @@
+-- `chunk::go`: at each turn, what is left of the chunk gives, from the tape so far, what the whole chunk gives; the loop ends where `going`
+-- stops.
+-- Assumes nothing.
+use mathlib.Core.Path.{◌≡◌, ap, subst, subst⁻¹, ◌∙◌}
+use mathlib.Core.List.{List}
+use Prim.Native.Nat.{ℕ, ◌+◌, ◌*◌, ◌-◌, ◌≤◌}
+use native.Mathlib.Omega.{arith}
+use lib.ListN.{length, take, drop, get_or}
+use Rattle.ground.proofs.Laws.Lists.{take_rest}
+use Rattle.link_spec.specs.declared.receiver.Receiver.{Receiver}
+use Rattle.tape_spec.specs.declared.tape.Line.{Line}
+use Rattle.tape_spec.specs.Limits.{least_room, most_records}
+use Rattle.tape_spec.specs.declared.tape.Receivers.{Receivers}
+use Rattle.tape_spec.specs.declared.tape.Next.{Next}
+use Rattle.tape_spec.specs.declared.tape.Next.TheVariants.{Kind, Body}
+use Rattle.tape_spec.specs.Whole.{receiver_on, with_receiver}
+use Rattle.tape_spec.specs.Taping.{tape_of, is_over, ListedOut}
+use Rattle.tape_spec.proofs.Laws.Coming.{coming-after}
+use Rattle.tape_spec.proofs.Laws.Unique.{same-coming}
+use Rattle.tape.specs.Running.{RunHeard, Left}
+use Rattle.tape.proofs.Laws.Chunks.{over, Goes, at-end, out-of-room, at_last, next-kind, next-run, run-some}
+use Rattle.tape.proofs.chunk.go.Invariants.{asked}
+use Rattle.tape.proofs.chunk.go.Goals as goal
+use Rattle.tape.proofs.chunk.go.Goals.{
+  then-loop-taken-test+else-out-written-ge-LEAST_ROOM,
+  else-loop-taken-test,
+  then-loop-taken-test+then-out-written-ge-LEAST_ROOM+in-Bad,
+  then-loop-taken-test+then-out-written-ge-LEAST_ROOM+in-Full,
+}
+
+pub loop-taken-preserved-in-Kind : goal.loop-taken-preserved-in-Kind
+loop-taken-preserved-in-Kind c =
+    let l = c.loop-taken in
+    let a = c.args in
+    let goes : Next → ℕ → Type 0 = λ x n. Goes a.chunk.now (asked a.chunk.now a.tape a.out.now) l.out
+    (tape_of l.records x l.receivers) n l.written in (
+      subst⁻¹ (λ (x : Next). goes x (l.taken + 1))
+          (same-coming c.after_kind-next.ensures (coming-after l.records (get_or a.chunk.now l.taken 0)))
+          (next-kind _ _ c.if-out-written-ge-LEAST_ROOM.true c.loop-taken-test.true
+          (subst (λ (x : Next). goes x l.taken) c.in-Kind.is l.invariant.0)),
+      l.invariant.1,
+      l.invariant.2,
+    )
+
+-- a body is next, and a run was heard of the chunk from there to its end
+module _
+    {chunk out : List ℕ} {all : ListedOut} {next : Next} {r : Receivers} {n taken written : ℕ} {line : Line} {s : Receiver}
+    {after : Left} (goes : Goes chunk all out (tape_of n next r) taken written) (body : next ≡ Body line)
+    (roomy : least_room ≤ length out - written) (on : s ≡ receiver_on line r)
+    (ran : RunHeard line s n (take (length chunk - taken) (drop taken chunk)) out written after) where
+  body-next : Goes chunk all out (tape_of n (Body line) r) taken written
+  body-next = subst (λ (x : Next). Goes chunk all out (tape_of n x r) taken written) body goes
+
+  -- what was heard, of the receiver that the tape holds and of all that is left
+  heard : RunHeard line (receiver_on line r) n (drop taken chunk) out written after
+  heard =
+      subst (λ (x : List ℕ). RunHeard line (receiver_on line r) n x out written after) (take_rest chunk taken)
+      (subst (λ (x : Receiver). RunHeard line x n (take (length chunk - taken) (drop taken chunk)) out written after) on ran)
+
+  -- after it a kind is next again
+  kind-next : Goes chunk all after.out (tape_of (n + after.count) Kind (with_receiver line after.receiver r))
+      (taken + (2 * after.count - 1)) after.end
+  kind-next = next-run _ _ roomy body-next heard
+
+  -- some records were taken, not more than are permitted and not beyond the chunk
+  takes : (1 ≤ after.count) × (n + after.count ≤ most_records) × (taken + (2 * after.count - 1) ≤ length chunk)
+  takes = (run-some _ _ roomy body-next heard, kind-next.few, kind-next.part)
+
+pub overflow_cast-records : goal.overflow_cast-records
+overflow_cast-records c =
+    omega (
+      arith,
+      takes c.loop-taken.invariant.0 c.in-Body.is c.if-out-written-ge-LEAST_ROOM.true c.receiver_on-receiver.ensures c.run-ran.ensures,
+    )
+
+pub overflow_add-records : goal.overflow_add-records
+overflow_add-records c =
+    omega (
+      arith,
+      takes c.loop-taken.invariant.0 c.in-Body.is c.if-out-written-ge-LEAST_ROOM.true c.receiver_on-receiver.ensures c.run-ran.ensures,
+    )
+
+pub overflow_mul-taken : goal.overflow_mul-taken
+overflow_mul-taken c =
+    omega (
+      arith,
+      takes c.loop-taken.invariant.0 c.in-Body.is c.if-out-written-ge-LEAST_ROOM.true c.receiver_on-receiver.ensures c.run-ran.ensures,
+    )
+
+pub overflow_sub-taken : goal.overflow_sub-taken
+overflow_sub-taken c =
+    omega (
+      arith,
+      takes c.loop-taken.invariant.0 c.in-Body.is c.if-out-written-ge-LEAST_ROOM.true c.receiver_on-receiver.ensures c.run-ran.ensures,
+    )
+
+pub overflow_add-taken-in-Body : goal.overflow_add-taken-in-Body
+overflow_add-taken-in-Body c =
+    omega (
+      arith,
+      takes c.loop-taken.invariant.0 c.in-Body.is c.if-out-written-ge-LEAST_ROOM.true c.receiver_on-receiver.ensures c.run-ran.ensures,
+    )
+
+pub loop-taken-smaller : goal.loop-taken-smaller
+loop-taken-smaller c =
+    omega (
+      arith,
+      takes c.loop-taken.invariant.0 c.in-Body.is c.if-out-written-ge-LEAST_ROOM.true c.receiver_on-receiver.ensures c.run-ran.ensures,
+    )
+
+pub loop-taken-preserved : goal.loop-taken-preserved
+loop-taken-preserved c =
+    let l = c.loop-taken in
+    let a = c.args in
+    let q = c.run-ran.result in (
+      subst⁻¹ (λ (x : Receivers). Goes a.chunk.now (asked a.chunk.now a.tape a.out.now) c.run-ran.new.out
+          (tape_of (l.records + q.count) Kind x) (l.taken + (2 * q.count - 1)) q.end) c.with_receiver-receivers.ensures
+          (kind-next l.invariant.0 c.in-Body.is c.if-out-written-ge-LEAST_ROOM.true c.receiver_on-receiver.ensures c.run-ran.ensures),
+      c.run-ran.auto.out ∙ l.invariant.1,
+      c.run-ran.auto.piece ∙ l.invariant.2,
+    )
+
+-- the four ways out of the loop
+pub returns : goal.returns
+returns c =
+    let l = c.loop-taken in
+    ap (over l.out) c.stopped.ensures
+    ∙ elim c.loop-taken-test.branch [
+      | then-loop-taken-test+else-out-written-ge-LEAST_ROOM w ↦ out-of-room _ _ l.invariant.0 w.if-out-written-ge-LEAST_ROOM.false
+      | else-loop-taken-test w ↦ at-end _ _ l.invariant.0 w.loop-taken-test.false
+      | then-loop-taken-test+then-out-written-ge-LEAST_ROOM+in-Bad w ↦ at_last _ _ l.invariant.0 (ap is_over w.in-Bad.is)
+      | then-loop-taken-test+then-out-written-ge-LEAST_ROOM+in-Full w ↦ at_last _ _ l.invariant.0 (ap is_over w.in-Full.is)
+    ]
