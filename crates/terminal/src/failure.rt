@@ -1,6 +1,7 @@
 // What failed and why, as a line on standard error.
 use ground::put;
 use std::fmt;
+use std::fmt::Write;
 use std::io::Error;
 use std::str::from_utf8;
 
@@ -14,7 +15,7 @@ struct Said {
     length: usize,
 }
 
-impl fmt::Write for Said {
+impl Write for Said {
     fn write_str(&mut self, part: &str) -> fmt::Result {
         self.length = put(part.as_bytes(), &mut self.letters, self.length).end;
         Ok(())
