@@ -51,7 +51,8 @@ fn tell(rt: &HostRuntime, failure: Failure) {
         Failure::Write(error) => fail(rt, "report: standard output", error),
         Failure::TooLong => {
             let _ = eprintln!(rt;
-                "report: the tape goes on after 4294967295 records, the most it may have: report it in parts");
+                "report: the tape goes on after 4294967295 records, the most it may have: report it in parts"
+            );
         }
         Failure::Refused => {
             let _ = eprintln!(rt; "report: the tape was refused");
