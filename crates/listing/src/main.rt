@@ -7,7 +7,7 @@ ghost use Rattle.tape_spec.specs.Limits.{most_records};
 use std::io::{Error, Read, Write};
 use std::process::ExitCode;
 use tape::{Tape, fresh_tape, is_over, list, write_header, write_last};
-use terminal::{begin, fail, hide, is_terminal, show};
+use terminal::{Stream, begin, fail, hide, is_terminal, show};
 
 // How many bytes are read at once at most, and the places for the rows that are put together.
 const BLOCK: usize = 65536;
@@ -124,7 +124,7 @@ const MOST_BLOCKS: u64 = 0x2_0000_0000;
 fn list_tape(rt: &HostRuntime, text: &mut [u8]) -> bool {
     let mut block = [0u8; BLOCK];
     let mut tape = fresh_tape();
-    let mut progress = begin(rt, !is_terminal(&rt.stdout()));
+    let mut progress = begin(rt, !is_terminal(rt, Stream::Output));
     let mut turns = MOST_BLOCKS;
     while turns > 0 {
         turns -= 1;

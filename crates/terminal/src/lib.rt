@@ -15,16 +15,28 @@ use progress::{
 use std::io::{IsTerminal, Write};
 use std::time::Clock;
 
+// A standard stream.
+#[derive(Clone, Copy)]
+pub enum Stream {
+    Input,
+    Output,
+    Error,
+}
+
 // Whether a standard stream is a terminal's.
-pub fn is_terminal<S: IsTerminal>(stream: &S) -> bool {
-    stream.is_terminal()
+pub fn is_terminal(rt: &HostRuntime, stream: Stream) -> bool {
+    match stream {
+        Stream::Input => rt.stdin().is_terminal(),
+        Stream::Output => rt.stdout().is_terminal(),
+        Stream::Error => rt.stderr().is_terminal(),
+    }
 }
 
 // Nothing is read yet. Notices that are `wanted` are shown where standard error is a terminal.
 pub fn begin(rt: &HostRuntime, wanted: bool) -> Progress
     ensures { Begun wanted result }
 {
-    fresh_progress(wanted && is_terminal(&rt.stderr()), clock(rt))
+    fresh_progress(wanted && is_terminal(rt, Stream::Error), clock(rt))
 }
 
 // With `count` bytes more that are read; shows a notice where it is due.
