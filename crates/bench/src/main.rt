@@ -18,34 +18,37 @@ use bench::Bench;
 use buffer::front;
 use row::Row;
 use script::{Ending, Next, read_record};
+use std::process::ExitCode;
+use terminal::fail;
 
-// A Rattle program has no exit status. Where all was read and written it says so by a byte on this descriptor, for which tools/start waits;
-// started without tools/start, the descriptor is closed and the write comes to nothing.
-const DONE: i32 = 3;
+// Room for the longest payload.
+const SPACE: usize = 65536;
 
-fn main() {
-    let mut space = io::large_buffer();
-    if run(&mut space) {
-        io::write_all(DONE, b"1");
+fn main(rt: HostRuntime) -> ExitCode {
+    let mut space = [0u8; SPACE];
+    if run(&rt, &mut space) {
+        ExitCode::SUCCESS
+    } else {
+        ExitCode::FAILURE
     }
 }
 
 // Does the records of the script, with `space` for a payload, and writes their rows; whether all was read and written.
-fn run(space: &mut [u8]) -> bool {
+fn run(rt: &HostRuntime, space: &mut [u8]) -> bool {
     let mut bench = Bench::fresh();
     let mut records: usize = 0;
     // A proved loop has to end; no script has as many records.
     while records < usize::MAX {
-        let next = read_record(space);
+        let next = read_record(rt, space);
         match next {
             Next::Record(op, code, length) => {
                 let done = bench.perform(op, front(space, length), Row::of_op(code));
                 bench = done.bench;
-                if !done.row.print() {
+                if !done.row.print(rt) {
                     return false;
                 }
             }
-            Next::None(ending) => return write_last(ending, records),
+            Next::None(ending) => return write_last(rt, ending, records),
         }
         records += 1;
     }
@@ -53,18 +56,18 @@ fn run(space: &mut [u8]) -> bool {
 }
 
 // Writes the last row, after this many records; whether that went well. Where a read failed there is none, and standard error says why.
-fn write_last(ending: Ending, records: usize) -> bool {
+fn write_last(rt: &HostRuntime, ending: Ending, records: usize) -> bool {
     match ending {
-        Ending::End => print_last(b"end", records),
-        Ending::Cut => print_last(b"cut", records),
-        Ending::Bad => print_last(b"bad", records),
-        Ending::Failed => {
-            os::fail(b"bench: standard input");
+        Ending::End => print_last(rt, b"end", records),
+        Ending::Cut => print_last(rt, b"cut", records),
+        Ending::Bad => print_last(rt, b"bad", records),
+        Ending::Failed(error) => {
+            fail(rt, "bench: standard input", error);
             false
         }
     }
 }
 
-fn print_last(ending: &[u8], records: usize) -> bool {
-    Row::empty().with(ending).number(records).print()
+fn print_last(rt: &HostRuntime, ending: &[u8], records: usize) -> bool {
+    Row::empty().with(ending).number(records).print(rt)
 }

@@ -1,7 +1,8 @@
 // The row that a record writes.
 use crate::buffer::{MOST_ROOM, front};
 use ground::{Counted, Refusal, number, put};
-use libc::STDOUT_FILENO;
+use std::io::Write;
+use terminal::fail;
 use text::{put_decimal, put_pairs};
 
 // Room for the longest row: an op, the reader's two buffers, each with a blank before it and three letters for each byte but the last, which
@@ -80,13 +81,15 @@ impl Row {
     }
 
     // Ends the row and writes it; whether that went well.
-    pub(crate) fn print(self) -> bool {
+    pub(crate) fn print(self, rt: &HostRuntime) -> bool {
         let row = self.with(b"\n");
         let letters = row.letters;
-        let is_written = io::write_all(STDOUT_FILENO, front(&letters, row.length));
-        if !is_written {
-            os::fail(b"bench: standard output");
+        match rt.stdout().write_all(front(&letters, row.length)) {
+            Ok(()) => true,
+            Err(error) => {
+                fail(rt, "bench: standard output", error);
+                false
+            }
         }
-        is_written
     }
 }

@@ -2,7 +2,7 @@
 use crate::buffer::front_mut;
 use crate::number::two_bytes;
 use crate::op::{Coded, Op, with_code};
-use libc::STDIN_FILENO;
+use std::io::{Error, Read};
 
 // What the script goes on with: a record, of this op with this code and a payload of so many bytes, or none.
 #[derive(Clone, Copy)]
@@ -17,7 +17,7 @@ pub(crate) enum Ending {
     End,
     Cut,
     Bad,
-    Failed,
+    Failed(Error),
 }
 
 // A part of the script: it was read, the script ended before that, or a read failed.
@@ -25,58 +25,53 @@ pub(crate) enum Ending {
 enum Part {
     Whole,
     Ended,
-    Failed,
+    Failed(Error),
 }
 
 // Reads the next record; its payload stands at the front of `space`.
-pub(crate) fn read_record(space: &mut [u8]) -> Next {
+pub(crate) fn read_record(rt: &HostRuntime, space: &mut [u8]) -> Next {
     let mut code = [0u8; 1];
-    let part = read_part(&mut code);
+    let part = read_part(rt, &mut code);
     match part {
-        Part::Whole => read_coded(code[0], space),
+        Part::Whole => read_coded(rt, code[0], space),
         Part::Ended => Next::None(Ending::End),
-        Part::Failed => Next::None(Ending::Failed),
+        Part::Failed(error) => Next::None(Ending::Failed(error)),
     }
 }
 
 // Reads what follows an op's code.
-fn read_coded(code: u8, space: &mut [u8]) -> Next {
+fn read_coded(rt: &HostRuntime, code: u8, space: &mut [u8]) -> Next {
     let Coded::Known(op) = with_code(code) else {
         return Next::None(Ending::Bad);
     };
     let mut length = [0u8; 2];
-    let part = read_part(&mut length);
+    let part = read_part(rt, &mut length);
     match part {
-        Part::Whole => read_payload(op, code, two_bytes(length[0], length[1]), space),
+        Part::Whole => read_payload(rt, op, code, two_bytes(length[0], length[1]), space),
         Part::Ended => Next::None(Ending::Cut),
-        Part::Failed => Next::None(Ending::Failed),
+        Part::Failed(error) => Next::None(Ending::Failed(error)),
     }
 }
 
 // Reads a payload of this length.
-fn read_payload(op: Op, code: u8, length: usize, space: &mut [u8]) -> Next {
-    let part = read_part(front_mut(space, length));
+fn read_payload(rt: &HostRuntime, op: Op, code: u8, length: usize, space: &mut [u8]) -> Next {
+    let part = read_part(rt, front_mut(space, length));
     match part {
         Part::Whole => Next::Record(op, code, length),
         Part::Ended => Next::None(Ending::Cut),
-        Part::Failed => Next::None(Ending::Failed),
+        Part::Failed(error) => Next::None(Ending::Failed(error)),
     }
 }
 
 // Reads until all of `part` is filled.
-fn read_part(part: &mut [u8]) -> Part {
+fn read_part(rt: &HostRuntime, part: &mut [u8]) -> Part {
     let mut done: usize = 0;
     while done < part.len() {
-        let rest = &mut part[done..];
-        let got = libc::read(STDIN_FILENO, rest);
-        if got < 0 {
-            return Part::Failed;
+        match rt.stdin().read(&mut part[done..]) {
+            Err(error) => return Part::Failed(error),
+            Ok(0) => return Part::Ended,
+            Ok(count) => done += count,
         }
-        let count = io::count(got, rest);
-        if count == 0 {
-            return Part::Ended;
-        }
-        done += count;
     }
     Part::Whole
 }

@@ -3,46 +3,47 @@
 #![tactic(auto)]
 
 use ground::put;
-use libc::{STDERR_FILENO, STDOUT_FILENO};
 use link::{Event, fresh_point, receive, write_point};
+use std::io::Write;
+use std::process::ExitCode;
 use text::put_pairs;
 
-// A Rattle program has no exit status. Where all was written it says so by a byte on this descriptor, for which tools/start waits; started
-// without tools/start, the descriptor is closed and the write comes to nothing.
-const DONE: i32 = 3;
-
 // Prints up to 8 bytes as hex pairs, in a row of their own, or says that it cannot.
-fn print(bytes: &[u8]) -> bool {
+fn print(rt: &HostRuntime, bytes: &[u8]) -> bool {
     let mut row = [0u8; 24];
     let pairs = put_pairs(bytes, &mut row, 0);
     let end = put(b"\n", &mut row, pairs.end).end;
-    let is_written = io::write_all(STDOUT_FILENO, &row[..end]);
+    let is_written = rt.stdout().write_all(&row[..end]).is_ok();
     if !is_written {
-        io::write_all(
-            STDERR_FILENO,
-            b"example: standard output cannot be written\n",
-        );
+        let _ = eprintln!(rt; "example: standard output cannot be written");
     }
     is_written
 }
 
-fn main() {
+// Whether all was written.
+fn run(rt: &HostRuntime) -> bool {
     let mut out = [0u8; 8];
     let written = write_point(0x00, 0x00, &[], &mut out);
     let count = written.count;
-    check::expect(count == 6);
-    if !print(&out[..count]) {
-        return;
+    prove!(count == 6);
+    if !print(rt, &out[..count]) {
+        return false;
     }
     let heard = receive(fresh_point(), &out[..count]);
     let event = heard.event;
     let Event::Frame = event else {
-        return;
+        return false;
     };
     let content = heard.content;
     let length = heard.length;
-    check::expect(length == 2);
-    if print(&content[..length]) {
-        io::write_all(DONE, b"1");
+    prove!(length == 2);
+    print(rt, &content[..length])
+}
+
+fn main(rt: HostRuntime) -> ExitCode {
+    if run(&rt) {
+        ExitCode::SUCCESS
+    } else {
+        ExitCode::FAILURE
     }
 }

@@ -4,19 +4,19 @@
 ghost use Rattle.std.specs.Prelude.{◌≤◌};
 ghost use Rattle.tape_spec.specs.Limits.{most_records};
 
-use libc::{STDERR_FILENO, STDIN_FILENO, STDOUT_FILENO};
+use std::io::{Error, Read, Write};
+use std::process::ExitCode;
 use tape::{Tape, fresh_tape, is_over, list, write_header, write_last};
-use terminal::{begin, hide, is_terminal, show};
+use terminal::{Stream, begin, fail, hide, is_terminal, show};
 
-// A Rattle program has no exit status. Where all was read and written it says so by a byte on this descriptor, for which tools/start waits;
-// started without tools/start, the descriptor is closed and the write comes to nothing.
-const DONE: i32 = 3;
+// How many bytes are read at once at most, and the places for the rows that are put together.
+const BLOCK: usize = 65536;
 
 // Why a tape is not listed to its end.
 #[derive(Clone, Copy)]
 enum Failure {
-    Read,
-    Write,
+    Read(Error),
+    Write(Error),
     Refused,
 }
 
@@ -34,28 +34,30 @@ struct Stage {
     course: Course,
 }
 
-// Says what failed; of a read or a write before another call fails, as `errno` says why.
-fn tell(failure: Failure) {
+// Says what failed, and why.
+fn tell(rt: &HostRuntime, failure: Failure) {
     match failure {
-        Failure::Read => os::fail(b"listing: standard input"),
-        Failure::Write => os::fail(b"listing: standard output"),
+        Failure::Read(error) => fail(rt, "listing: standard input", error),
+        Failure::Write(error) => fail(rt, "listing: standard output", error),
         Failure::Refused => {
-            io::write_all(STDERR_FILENO, b"listing: the tape was refused\n");
+            let _ = eprintln!(rt; "listing: the tape was refused");
         }
     }
 }
 
 // Writes all of `text`, or says why it cannot.
-fn print(text: &[u8]) -> bool {
-    let is_written = io::write_all(STDOUT_FILENO, text);
-    if !is_written {
-        tell(Failure::Write);
+fn print(rt: &HostRuntime, text: &[u8]) -> bool {
+    match rt.stdout().write_all(text) {
+        Ok(()) => true,
+        Err(error) => {
+            tell(rt, Failure::Write(error));
+            false
+        }
     }
-    is_written
 }
 
 // Lists all of a chunk that is read; `text` is where the rows are put together.
-fn list_chunk(tape: Tape, chunk: &[u8], text: &mut [u8]) -> Stage
+fn list_chunk(rt: &HostRuntime, tape: Tape, chunk: &[u8], text: &mut [u8]) -> Stage
     requires { tape.records ≤ most_records }
     ensures { result.tape.records ≤ most_records }
 {
@@ -65,10 +67,10 @@ fn list_chunk(tape: Tape, chunk: &[u8], text: &mut [u8]) -> Stage
         let listed = list(tape, &chunk[taken..], text);
         tape = listed.tape;
         let written = listed.written;
-        if !io::write_all(STDOUT_FILENO, &text[..written]) {
+        if let Err(error) = rt.stdout().write_all(&text[..written]) {
             return Stage {
                 tape,
-                course: Course::Failed(Failure::Write),
+                course: Course::Failed(Failure::Write(error)),
             };
         }
         if listed.taken == 0 {
@@ -98,65 +100,65 @@ fn halted(tape: Tape) -> Stage
 }
 
 // Reads a block of the tape and lists it. Without one the tape is over.
-fn list_block(tape: Tape, block: &mut [u8], text: &mut [u8]) -> Stage
+fn list_block(rt: &HostRuntime, tape: Tape, block: &mut [u8], text: &mut [u8]) -> Stage
     requires { tape.records ≤ most_records }
     ensures { result.tape.records ≤ most_records }
 {
-    let got = libc::read(STDIN_FILENO, block);
-    if got < 0 {
-        return Stage {
+    match rt.stdin().read(block) {
+        Err(error) => Stage {
             tape,
-            course: Course::Failed(Failure::Read),
-        };
-    }
-    let count = io::count(got, block);
-    if count == 0 {
-        return Stage {
+            course: Course::Failed(Failure::Read(error)),
+        },
+        Ok(0) => Stage {
             tape,
             course: Course::Over,
-        };
+        },
+        Ok(count) => list_chunk(rt, tape, &block[..count], text),
     }
-    list_chunk(tape, &block[..count], text)
 }
 
 // No tape is read further than 2^33 - 1 bytes, and a block has one at least.
 const MOST_BLOCKS: u64 = 0x2_0000_0000;
 
 // Lists a whole tape; whether all was read and written, with the last row.
-fn list_tape(text: &mut [u8]) -> bool {
-    let mut block = io::large_buffer();
+fn list_tape(rt: &HostRuntime, text: &mut [u8]) -> bool {
+    let mut block = [0u8; BLOCK];
     let mut tape = fresh_tape();
-    let mut progress = begin(!is_terminal(STDOUT_FILENO));
+    let mut progress = begin(rt, !is_terminal(rt, Stream::Output));
     let mut turns = MOST_BLOCKS;
     while turns > 0 {
         turns -= 1;
-        let stage = list_block(tape, &mut block, text);
+        let stage = list_block(rt, tape, &mut block, text);
         tape = stage.tape;
         let course = stage.course;
         match course {
-            Course::Reading(count) => progress = show(progress, count),
+            Course::Reading(count) => progress = show(rt, progress, count),
             Course::Over => turns = 0,
             Course::Failed(failure) => {
-                hide(progress);
-                tell(failure);
+                hide(rt, progress);
+                tell(rt, failure);
                 return false;
             }
         }
     }
-    hide(progress);
+    hide(rt, progress);
     let last = write_last(tape, text);
     let end = last.end;
-    print(&text[..end])
+    print(rt, &text[..end])
 }
 
-fn main() {
-    let mut text = io::large_buffer();
+// Lists standard input; whether all was read and written.
+fn run(rt: &HostRuntime) -> bool {
+    let mut text = [0u8; BLOCK];
     let header = write_header(&mut text);
     let end = header.end;
-    if !print(&text[..end]) {
-        return;
-    }
-    if list_tape(&mut text) {
-        io::write_all(DONE, b"1");
+    print(rt, &text[..end]) && list_tape(rt, &mut text)
+}
+
+fn main(rt: HostRuntime) -> ExitCode {
+    if run(&rt) {
+        ExitCode::SUCCESS
+    } else {
+        ExitCode::FAILURE
     }
 }

@@ -7,16 +7,16 @@ ghost use Rattle.totals_spec.specs.Rows.{sums_row, most_row, report_text, most_t
 ghost use Rattle.totals_spec.specs.Adding.{reported_by};
 
 use ground::Refusal;
-use libc::{STDERR_FILENO, STDIN_FILENO, STDOUT_FILENO};
-use terminal::{begin, hide, show};
+use std::io::{Error, Read, Write};
+use std::process::ExitCode;
+use terminal::{begin, fail, hide, show};
 use totals::{
     LineReport, Report, Totals, add, fresh_totals, is_over, report, write_ending, write_sums,
     write_title,
 };
 
-// A Rattle program has no exit status. Where all was read and written it says so by a byte on this descriptor, for which tools/start waits;
-// started without tools/start, the descriptor is closed and the write comes to nothing.
-const DONE: i32 = 3;
+// How many bytes are read at once at most.
+const BLOCK: usize = 65536;
 
 // Places for the longest report: its title of 45, two rows of 108 and the last row of 16.
 const MOST_TEXT: usize = 277;
@@ -24,8 +24,8 @@ const MOST_TEXT: usize = 277;
 // Why a tape has no report.
 #[derive(Clone, Copy)]
 enum Failure {
-    Read,
-    Write,
+    Read(Error),
+    Write(Error),
     TooLong,
     Refused,
 }
@@ -35,7 +35,7 @@ enum Failure {
 enum Course {
     Reading(usize),
     Over,
-    Failed,
+    Failed(Error),
 }
 
 #[derive(Clone, Copy)]
@@ -44,30 +44,31 @@ struct Stage {
     course: Course,
 }
 
-// Says what failed; of a read or a write before another call fails, as `errno` says why.
-fn tell(failure: Failure) {
+// Says what failed, and why.
+fn tell(rt: &HostRuntime, failure: Failure) {
     match failure {
-        Failure::Read => os::fail(b"report: standard input"),
-        Failure::Write => os::fail(b"report: standard output"),
+        Failure::Read(error) => fail(rt, "report: standard input", error),
+        Failure::Write(error) => fail(rt, "report: standard output", error),
         Failure::TooLong => {
-            io::write_all(
-                STDERR_FILENO,
-                b"report: the tape goes on after 4294967295 records, the most it may have: report it in parts\n",
+            let _ = eprintln!(rt;
+                "report: the tape goes on after 4294967295 records, the most it may have: report it in parts"
             );
         }
         Failure::Refused => {
-            io::write_all(STDERR_FILENO, b"report: the tape was refused\n");
+            let _ = eprintln!(rt; "report: the tape was refused");
         }
     }
 }
 
 // Writes all of `text`, or says why it cannot.
-fn print(text: &[u8]) -> bool {
-    let is_written = io::write_all(STDOUT_FILENO, text);
-    if !is_written {
-        tell(Failure::Write);
+fn print(rt: &HostRuntime, text: &[u8]) -> bool {
+    match rt.stdout().write_all(text) {
+        Ok(()) => true,
+        Err(error) => {
+            tell(rt, Failure::Write(error));
+            false
+        }
     }
-    is_written
 }
 
 // Puts the row of a line at a place of `text`, which has room for the longest; where it ends.
@@ -100,21 +101,21 @@ fn put_report(report: Report, text: &mut [u8]) -> usize
 }
 
 // Writes a report once all of it is there, or why there is none; whether it is written.
-fn print_report(report: Report) -> bool {
+fn print_report(rt: &HostRuntime, report: Report) -> bool {
     let refusal = report.refusal;
     match refusal {
         Refusal::None => {
             let mut text = [0u8; MOST_TEXT];
             let end = put_report(report, &mut text);
-            print(&text[..end])
+            print(rt, &text[..end])
         }
         Refusal::TapeTooLong => {
-            print(b"refused 10 TapeTooLong\n");
-            tell(Failure::TooLong);
+            print(rt, b"refused 10 TapeTooLong\n");
+            tell(rt, Failure::TooLong);
             false
         }
         _ => {
-            tell(Failure::Refused);
+            tell(rt, Failure::Refused);
             false
         }
     }
@@ -122,61 +123,61 @@ fn print_report(report: Report) -> bool {
 
 // Reads a block of the tape and adds it up. Without one the tape is over. Totals that are refused here come back as they were, and the report
 // refuses them too.
-fn add_block(totals: Totals, block: &mut [u8]) -> Stage {
-    let got = libc::read(STDIN_FILENO, block);
-    if got < 0 {
-        return Stage {
+fn add_block(rt: &HostRuntime, totals: Totals, block: &mut [u8]) -> Stage {
+    match rt.stdin().read(block) {
+        Err(error) => Stage {
             totals,
-            course: Course::Failed,
-        };
-    }
-    let count = io::count(got, block);
-    if count == 0 {
-        return Stage {
+            course: Course::Failed(error),
+        },
+        Ok(0) => Stage {
             totals,
             course: Course::Over,
-        };
+        },
+        Ok(count) => {
+            let added = add(totals, &block[..count]);
+            let totals = added.totals;
+            let course = if is_over(totals.tape) {
+                Course::Over
+            } else {
+                Course::Reading(count)
+            };
+            Stage { totals, course }
+        }
     }
-    let added = add(totals, &block[..count]);
-    let totals = added.totals;
-    let course = if is_over(totals.tape) {
-        Course::Over
-    } else {
-        Course::Reading(count)
-    };
-    Stage { totals, course }
 }
 
 // No tape is read further than 2^33 - 1 bytes, and a block has one at least.
 const MOST_BLOCKS: u64 = 0x2_0000_0000;
 
 // Reports a whole tape; whether all was read and written.
-fn report_tape() -> bool {
-    let mut block = io::large_buffer();
+fn report_tape(rt: &HostRuntime) -> bool {
+    let mut block = [0u8; BLOCK];
     let mut totals = fresh_totals();
-    let mut progress = begin(true);
+    let mut progress = begin(rt, true);
     let mut turns = MOST_BLOCKS;
     while turns > 0 {
         turns -= 1;
-        let stage = add_block(totals, &mut block);
+        let stage = add_block(rt, totals, &mut block);
         totals = stage.totals;
         let course = stage.course;
         match course {
-            Course::Reading(count) => progress = show(progress, count),
+            Course::Reading(count) => progress = show(rt, progress, count),
             Course::Over => turns = 0,
-            Course::Failed => {
-                hide(progress);
-                tell(Failure::Read);
+            Course::Failed(error) => {
+                hide(rt, progress);
+                tell(rt, Failure::Read(error));
                 return false;
             }
         }
     }
-    hide(progress);
-    print_report(report(totals))
+    hide(rt, progress);
+    print_report(rt, report(totals))
 }
 
-fn main() {
-    if report_tape() {
-        io::write_all(DONE, b"1");
+fn main(rt: HostRuntime) -> ExitCode {
+    if report_tape(&rt) {
+        ExitCode::SUCCESS
+    } else {
+        ExitCode::FAILURE
     }
 }

@@ -1,58 +1,84 @@
 // How far an input is read, as a notice on the terminal, for the programs; it is taken away before anything else is said there. What the
-// terminal and the clock answered is fixed by no statement; `begin` and `show` state what follows from it.
+// terminal and the clock answered is fixed by no statement; `begin` and `show` state what follows from it. And what failed, as a line on
+// standard error.
 #![tactic(auto)]
+
+mod failure;
 
 ghost use Rattle.std.specs.Prelude.{◌≡◌};
 ghost use Rattle.terminal.specs.Asking.{Begun, after_show, Shown};
 
-use libc::STDERR_FILENO;
+pub use failure::fail;
 use progress::{
     Progress, after_block, after_notice, blanks, fresh_progress, is_due, notice_of, seconds,
 };
+use std::io::{IsTerminal, Write};
+use std::time::Clock;
 
-// Whether a descriptor is a terminal's.
-pub fn is_terminal(descriptor: i32) -> bool {
-    libc::isatty(descriptor) == 1
+// A standard stream.
+#[derive(Clone, Copy)]
+pub enum Stream {
+    Input,
+    Output,
+    Error,
+}
+
+// Whether a standard stream is a terminal's.
+pub fn is_terminal(rt: &HostRuntime, stream: Stream) -> bool {
+    match stream {
+        Stream::Input => rt.stdin().is_terminal(),
+        Stream::Output => rt.stdout().is_terminal(),
+        Stream::Error => rt.stderr().is_terminal(),
+    }
 }
 
 // Nothing is read yet. Notices that are `wanted` are shown where standard error is a terminal.
-pub fn begin(wanted: bool) -> Progress
+pub fn begin(rt: &HostRuntime, wanted: bool) -> Progress
     ensures { Begun wanted result }
 {
-    fresh_progress(wanted && is_terminal(STDERR_FILENO), clock())
+    fresh_progress(wanted && is_terminal(rt, Stream::Error), clock(rt))
 }
 
 // With `count` bytes more that are read; shows a notice where it is due.
-pub fn show(progress: Progress, count: usize) -> Progress
+pub fn show(rt: &HostRuntime, progress: Progress, count: usize) -> Progress
     ensures { Shown progress count result }
 {
     if progress.wanted {
-        show_at(after_block(progress, count), clock())
+        show_at(rt, after_block(progress, count), clock(rt))
     } else {
         progress
     }
 }
 
 // Shows a notice where it is due at this time.
-fn show_at(progress: Progress, clock: u64) -> Progress
+fn show_at(rt: &HostRuntime, progress: Progress, clock: u64) -> Progress
     ensures { result ≡ after_show progress clock }
 {
     if is_due(progress, clock) {
-        io::write_all(STDERR_FILENO, &notice_of(progress));
+        say(rt, &notice_of(progress));
         after_notice(progress, clock)
     } else {
         progress
     }
 }
 
-// Takes the notice away, if there is one. `errno` stays as it is, unless the terminal takes no bytes.
-pub fn hide(progress: Progress) {
+// Takes the notice away, if there is one.
+pub fn hide(rt: &HostRuntime, progress: Progress) {
     if progress.shown {
-        io::write_all(STDERR_FILENO, &blanks());
+        say(rt, &blanks());
     }
 }
 
-fn clock() -> u64 {
-    let mut stored: i64 = 0;
-    seconds(libc::time(&mut stored))
+// Writes to standard error. Where it takes no bytes nothing more can be said.
+fn say(rt: &HostRuntime, text: &[u8]) {
+    let _ = rt.stderr().write_all(text);
+}
+
+// The seconds since 1970; 0 where the clock cannot tell.
+fn clock(rt: &HostRuntime) -> u64 {
+    let answer = match rt.since_1970() {
+        Ok(time) => i64::try_from(time.as_secs()).unwrap_or(-1),
+        Err(_) => -1,
+    };
+    seconds(answer)
 }
