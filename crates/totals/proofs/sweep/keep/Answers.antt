@@ -17,7 +17,7 @@ loop-at-preserved c =
     let l = c.loop-at in
     let n = l.invariant in
     let more : a.from + (l.kept - a.count) < length a.piece.now = omega (arith, n.here) in
-    let low : get_or a.piece.now l.at 0 < start = c.if-piece-at-lt-START.true in
+    let low : get_or a.piece.now l.at 0 < start = omega arith in
     let own = n.keeps a.station (c.is_address.ensures.later c.if-is_address.false) in
     record {
       here = omega (arith, n.here, own.0.least);
