@@ -57,7 +57,7 @@ overflow_add-result c =
     let second = c.put_line-end-2 in
     let short : length (end_row r) ≤ most_last = last_within r.ending r.records (omega arith) in
     let fits : second.result + length (end_row r) ≤ length second.new.text =
-        omega (arith, short, titled.0, length-title, c.write_title-title.auto, first.auto, first.ensures.upper_bound, second.auto, second.ensures.upper_bound) in
+    omega (arith, short, titled.0, length-title, c.write_title-title.auto, first.auto, first.ensures.upper_bound, second.auto, second.ensures.upper_bound) in
     let lies = part_placed second.new.text second.result (end_row r) c.write_ending-last.ensures fits in
     omega (arith, lies.0, fits, titled.0, length-title, short, first.ensures.upper_bound, second.ensures.upper_bound)
 
@@ -69,7 +69,7 @@ returns-clause-upper_bound c =
     let second = c.put_line-end-2 in
     let short : length (end_row r) ≤ most_last = last_within r.ending r.records (omega arith) in
     let fits : second.result + length (end_row r) ≤ length second.new.text =
-        omega (arith, short, titled.0, length-title, c.write_title-title.auto, first.auto, first.ensures.upper_bound, second.auto, second.ensures.upper_bound) in
+    omega (arith, short, titled.0, length-title, c.write_title-title.auto, first.auto, first.ensures.upper_bound, second.auto, second.ensures.upper_bound) in
     let lies = part_placed second.new.text second.result (end_row r) c.write_ending-last.ensures fits in
     omega (arith, lies.0, fits, ap length lies.1, length-laid second.new.text second.result (end_row r) fits)
 
@@ -83,7 +83,7 @@ returns-clause-text_after c =
     let second = c.put_line-end-2 in
     let short : length (end_row r) ≤ most_last = last_within r.ending r.records (omega arith) in
     let fits : second.result + length (end_row r) ≤ length second.new.text =
-        omega (arith, short, titled.0, length-title, c.write_title-title.auto, first.auto, first.ensures.upper_bound, second.auto, second.ensures.upper_bound) in
+    omega (arith, short, titled.0, length-title, c.write_title-title.auto, first.auto, first.ensures.upper_bound, second.auto, second.ensures.upper_bound) in
     let lies = part_placed second.new.text second.result (end_row r) c.write_ending-last.ensures fits in
     let with_first = front-more buffer title_row (first_row r) titled first.ensures.value first.ensures.text_after in
     let with_second = front-more buffer (title_row ++ first_row r) (second_row r) with_first second.ensures.value second.ensures.text_after in
