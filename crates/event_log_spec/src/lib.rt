@@ -1,5 +1,5 @@
 // The addressed reader's event log, as types alone: the record, what a request makes it do, and what the calls by value answer. What is so is
-// in specs/; the crates `log_core` and `log` do it.
+// in specs/; the crate `event_log` does it.
 #![tactic(auto)]
 
 mod log;
