@@ -1,11 +1,12 @@
 // The ring of bodies: an empty log, a new entry by value, and the oldest that waits.
 ghost use Rattle.std.specs.Prelude.{◌≡◌, false, cond, eqb, ◌+◌, ◌%◌, ◌*◌, ◌≤◌, ◌<◌};
+ghost use Rattle.request_spec.specs.Header.{low_first};
 ghost use Rattle.event_log_spec.specs.Limits.{most_held, body_length, identifiers};
 ghost use Rattle.event_log_spec.specs.Log.{empty_log, bad_numbers, bad_log, identifier_before, oldest_waiting};
 ghost use Rattle.event_log_spec.specs.Appending.{one_more, with_entry, Appends};
 
 use event_log_spec::{Appended, BODY_LENGTH, ENTRY_LENGTH, Log, MOST_HELD, RING_LENGTH};
-use ground::{Refusal, low_first, put};
+use ground::{Refusal, put};
 
 // How many identifiers of 32 bits there are.
 const IDENTIFIERS: u64 = 0x1_0000_0000;
@@ -119,6 +120,18 @@ pub(crate) fn oldest_waiting(log: Log) -> [u8; ENTRY_LENGTH]
     put(&identifier, &mut entry, 0);
     put(&bodies[at..at + BODY_LENGTH], &mut entry, 4);
     entry
+}
+
+// The four bytes of a number, low byte first.
+fn low_first(number: u32) -> [u8; 4]
+    ensures { result ≡ low_first number }
+{
+    [
+        (number % 256) as u8,
+        (number / 256 % 256) as u8,
+        (number / 65536 % 256) as u8,
+        (number / 16777216 % 256) as u8,
+    ]
 }
 
 // The identifier that is so many before the next one.

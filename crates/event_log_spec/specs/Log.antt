@@ -1,7 +1,7 @@
 -- The log's record: a ring of bodies, the place of the oldest held entry, how many are held, how many of these wait, and the next identifier.
 -- 02, L3; 000, 'Команды работы с памятью событий: общие принципы'. Assumes nothing.
 use Rattle.std.specs.Prelude.{ℕ, ◌+◌, ◌-◌, ◌*◌, ◌%◌, ◌≤◌, ◌<◌, Bool, ◌||◌, List, ◌++◌, ltb, leb, take, drop, replicate}
-use Rattle.ground.specs.Numbers.{low_first}
+use Rattle.request_spec.specs.Header.{low_first}
 use Rattle.event_log_spec.specs.declared.log.Log.{Log}
 use Rattle.event_log_spec.specs.Limits.{most_held, body_length, ring_length, identifiers}
 

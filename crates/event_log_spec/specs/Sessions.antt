@@ -5,7 +5,7 @@ use Rattle.std.specs.Prelude.{ℕ, ◌%◌, ◌≡◌, Bool, cond, ◌&&◌, Lis
 use Rattle.ground.specs.declared.refusal.Refusal.{Refusal}
 use Rattle.ground.specs.declared.refusal.Counted.{Counted}
 use Rattle.ground.specs.Refusals.{tally}
-use Rattle.ground.specs.Numbers.{low_first}
+use Rattle.request_spec.specs.Header.{low_first}
 use Rattle.event_log_spec.specs.declared.log.Log.{Log}
 use Rattle.event_log_spec.specs.Limits.{body_length, identifiers, room}
 use Rattle.event_log_spec.specs.Log.{empty_log}

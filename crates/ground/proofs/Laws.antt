@@ -5,5 +5,4 @@ pub mod Lists
 pub mod Table
 pub mod Refusals
 pub mod Laying
-pub mod Numbers
 pub mod Unique

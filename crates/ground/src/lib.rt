@@ -1,12 +1,10 @@
-// What every crate above stands on: refusals by their numbers, counts, bytes put into a lent buffer, a number's bytes, and the lesser of two numbers.
+// What every crate above stands on: refusals by their numbers, counts, bytes put into a lent buffer, and the lesser of two numbers.
 #![tactic(auto)]
 
 mod laying;
 mod lesser;
-mod numbers;
 mod refusal;
 
 pub use laying::{Placed, put, room};
 pub use lesser::least;
-pub use numbers::low_first;
 pub use refusal::{Counted, Refusal, number};

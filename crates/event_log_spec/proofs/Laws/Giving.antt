@@ -9,7 +9,7 @@ use native.Mathlib.Omega.{arith}
 use lib.Dec.{eqb, leb}
 use lib.ListN.{length, get_or, drop, length-drop, drop_of_length-le}
 use borrow.Author.Tests.{eqb-true, eqb-false, eq-eqb, ne_eqb, lt-leb, le-leb}
-use Rattle.ground.specs.Numbers.{low_first}
+use Rattle.request_spec.specs.Header.{low_first}
 use Rattle.ground.proofs.Laws.Choice.{by-test, between-true}
 use Rattle.ground.proofs.Laws.Lists.{drop-none}
 use Rattle.link_spec.specs.Events.{FRAME}

@@ -5,7 +5,7 @@ use mathlib.Core.List.{List, ◌++◌}
 use Prim.Native.Nat.{ℕ, ◌≤◌}
 use native.Mathlib.Omega.{arith}
 use lib.ListN.{length, drop, length-append, length-take}
-use Rattle.ground.specs.Numbers.{low_first}
+use Rattle.request_spec.specs.Header.{low_first}
 use Rattle.wire_spec.specs.Image.{image}
 use Rattle.wire_spec.specs.Writing.{After, putting}
 use Rattle.wire_spec.proofs.Laws.Image.{room-for-any}

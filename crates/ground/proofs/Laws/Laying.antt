@@ -66,10 +66,6 @@ take-front l x = rw (zero-add (length x)) at (take-laid l 0 x zero-le)
 pub laid-after : (l x y : List ℕ) → laid (laid l 0 x) (length x) y ≡ laid l 0 (x ++ y)
 laid-after l x y = rw (zero-add (length x)) at (laid_more l 0 x y zero-le)
 
--- what is laid after what stands in front stands there
-pub laid-at-end : {m m' : List ℕ} (l x y : List ℕ) (at : ℕ) → m ≡ laid l 0 x → length x ≡ at → m' ≡ laid m at y → m' ≡ laid l 0 (x ++ y)
-laid-at-end l x y at stood here lays = lays ∙ ap₂ (λ (m : List ℕ) (n : ℕ). laid m n y) stood (sym here) ∙ laid-after l x y
-
 -- a byte put into its place is laid there
 pub set-laid : (l : List ℕ) (at b : ℕ) → at < length l → set l at b ≡ laid l at (b ∷ [])
 unfolding laid

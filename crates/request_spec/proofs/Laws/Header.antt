@@ -19,7 +19,7 @@ set-four l at a b c d h =
     ∙ set_after l at (a ∷ b ∷ c ∷ []) d (omega arith)
 
 -- what is laid after what stands in front stands there
-laid-at-end : {m m' : List ℕ} (l x y : List ℕ) (at : ℕ) → m ≡ laid l 0 x → length x ≡ at → m' ≡ laid m at y → m' ≡ laid l 0 (x ++ y)
+pub laid-at-end : {m m' : List ℕ} (l x y : List ℕ) (at : ℕ) → m ≡ laid l 0 x → length x ≡ at → m' ≡ laid m at y → m' ≡ laid l 0 (x ++ y)
 laid-at-end l x y at stood here lays = lays ∙ ap₂ (λ (m : List ℕ) (n : ℕ). laid m n y) stood (sym here) ∙ laid-after l x y
 
 -- a name and five numbers, one after the other, are the header

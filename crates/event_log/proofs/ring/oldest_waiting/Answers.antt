@@ -5,8 +5,9 @@ use mathlib.Core.List.{List, ◌++◌}
 use native.Mathlib.Omega.{arith}
 use Prim.Native.Nat.{ℕ, ◌+◌, ◌-◌}
 use lib.ListN.{length, take, drop, replicate, length-append, length-take, length-drop}
-use Rattle.ground.specs.Numbers.{low_first}
-use Rattle.ground.proofs.Laws.Laying.{length-laid, laid-whole, laid-at-end, put-laid}
+use Rattle.request_spec.specs.Header.{low_first}
+use Rattle.ground.proofs.Laws.Laying.{length-laid, laid-whole, put-laid}
+use Rattle.request_spec.proofs.Laws.Header.{laid-at-end}
 use Rattle.event_log_spec.specs.Limits.{body_length}
 use Rattle.event_log_spec.specs.Log.{body_at}
 use Rattle.event_log.proofs.ring.oldest_waiting.Goals as goal
