@@ -12,6 +12,7 @@ use totals_spec::{LineReport, Report, Sums, Totals};
 // Ranks both lines of a tape that has no byte more, the one that was heard more first and the point line when they are equal. Refuses totals
 // that `is_bad_totals` names (BadState), and a tape on which a byte follows the last permitted record (TapeTooLong); the answer is then
 // zeros.
+#[tactic(auto, unfolding(totals_spec::specs::Adding::reported))]
 pub fn report(totals: Totals) -> Report
     ensures { reported_by result ≡ reported totals }
 {
@@ -28,6 +29,7 @@ pub fn report(totals: Totals) -> Report
 }
 
 // The report of sums that so many records can give.
+#[tactic(auto, unfolding(totals_spec::specs::Whole::ranked))]
 fn rank(point: Sums, addressed: Sums, ending: Ending, records: u32) -> Report
     requires point_value { bad_sums records point ≡ false }
     requires addressed_value { bad_sums records addressed ≡ false }

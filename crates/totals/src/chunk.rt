@@ -13,6 +13,7 @@ use totals_spec::{Added, Totals};
 const MOST_PIECE: usize = 1024;
 
 // Adds up the whole chunk. Refuses totals that `is_bad_totals` names (BadState), and then leaves them as they were.
+#[tactic(auto, unfolding(totals_spec::specs::Adding::added))]
 pub fn add(totals: Totals, chunk: &[u8]) -> Added
     ensures { added_out result ≡ added totals chunk.now }
 {

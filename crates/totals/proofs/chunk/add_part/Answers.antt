@@ -2,8 +2,7 @@
 -- Assumes nothing.
 use mathlib.Core.Path.{◌≡◌, ap, ◌∙◌}
 use mathlib.Core.Bool.{false}
-use mathlib.Core.List.{List, []}
-use Prim.Native.Nat.{ℕ, ◌≤◌}
+use Prim.Native.Nat.{◌≤◌}
 use native.Mathlib.Omega.{arith}
 use lib.ListN.{length}
 use Rattle.tape_spec.specs.declared.tape.Line.{Line}
@@ -12,38 +11,46 @@ use Rattle.tape_spec.specs.Limits.{most_records}
 use Rattle.totals_spec.specs.Adding.{sums_at, bad_sums}
 use Rattle.totals_spec.proofs.Laws.Counting.{within-fine, within_more}
 use Rattle.totals_spec.proofs.Laws.Adding.{Fine, fine-is, on-good, permitted}
-use Rattle.totals.specs.Splitting.{Pieces, parted_in, split_on}
+use Rattle.totals.specs.Splitting.{Pieces, parted_in}
 use Rattle.totals.proofs.Laws.Chunks.{joined_is, pieces-few}
-use Rattle.totals_spec.specs.declared.totals.Totals.{Totals}
 use Rattle.totals.proofs.chunk.add_part.Goals as goal
+use Rattle.totals.proofs.chunk.add_part.Goals.{After-split-parted}
+
+-- totals that are not bad
+fine : (c : After-split-parted) → Fine c.args.totals
+fine c = fine-is c.args.totals (omega arith) c.requires.totals_value
 
 -- no sum of totals that no call refuses is more than a whole tape can give
-small : {t : Totals} → Fine t → (line : Line) → bad_sums most_records (sums_at line t) ≡ false
-small {t} f line = within-fine most_records (sums_at line t) (within_more f.few (f.sums line))
+small : (c : After-split-parted) (line : Line) → bad_sums most_records (sums_at line c.args.totals) ≡ false
+small c line = within-fine most_records (sums_at line c.args.totals) (within_more (fine c).few ((fine c).sums line))
 
 -- what was split off for either line
-heard-few : {t : Totals} → Fine t → (part : List ℕ) (r : Pieces) → r ≡ split_on t.tape.records t.tape.next part [] []
-    → (length r.point ≤ most_records) × (length r.addressed ≤ most_records)
-heard-few {t} f part r says =
-    let few = pieces-few t.tape.records t.tape.next part f.few (permitted f) in
-    (omega (arith, ap (λ (p : Pieces). length p.point) says, few.0), omega (arith, ap (λ (p : Pieces). length p.addressed) says, few.1))
+heard-few : (c : After-split-parted)
+    → let r = parted_in c.split-parted.result c.split-parted.new.point c.split-parted.new.addressed in
+    (length r.point ≤ most_records) × (length r.addressed ≤ most_records)
+heard-few c =
+    let tape = c.args.totals.tape in
+    let few = pieces-few tape.records tape.next c.args.part.now (fine c).few (permitted (fine c)) in
+    let split = c.split-parted.ensures.addressed_after in
+    (omega (arith, ap (λ (p : Pieces). length p.point) split, few.0), omega (arith, ap (λ (p : Pieces). length p.addressed) split, few.1))
+
+pub split-parted-requires-clause-most_records_value : goal.split-parted-requires-clause-most_records_value
+split-parted-requires-clause-most_records_value c = permitted (fine-is c.args.totals (omega arith) c.requires.totals_value)
 
 pub hear-on_point-requires-clause-sums_value : goal.hear-on_point-requires-clause-sums_value
-hear-on_point-requires-clause-sums_value c = small (fine-is c.args.totals (omega arith) c.requires.totals_value) Point
+hear-on_point-requires-clause-sums_value c = small (goal.at.hear-on_point-requires-clause-sums_value c).After-split-parted Point
 
 pub hear-on_point-requires-clause-piece_len_bound : goal.hear-on_point-requires-clause-piece_len_bound
-hear-on_point-requires-clause-piece_len_bound c = (heard-few (fine-is c.args.totals (omega arith) c.requires.totals_value) c.args.part.now (parted_in c.split-parted.result c.split-parted.new.point c.split-parted.new.addressed)
-    c.split-parted.ensures.addressed_after).0
+hear-on_point-requires-clause-piece_len_bound c = (heard-few (goal.at.hear-on_point-requires-clause-piece_len_bound c).After-split-parted).0
 
 pub hear-on_addressed-requires-clause-receiver_value : goal.hear-on_addressed-requires-clause-receiver_value
-hear-on_addressed-requires-clause-receiver_value c = on-good (fine-is c.args.totals (omega arith) c.requires.totals_value) Addressed
+hear-on_addressed-requires-clause-receiver_value c = on-good (fine (goal.at.hear-on_addressed-requires-clause-receiver_value c).After-split-parted) Addressed
 
 pub hear-on_addressed-requires-clause-sums_value : goal.hear-on_addressed-requires-clause-sums_value
-hear-on_addressed-requires-clause-sums_value c = small (fine-is c.args.totals (omega arith) c.requires.totals_value) Addressed
+hear-on_addressed-requires-clause-sums_value c = small (goal.at.hear-on_addressed-requires-clause-sums_value c).After-split-parted Addressed
 
 pub hear-on_addressed-requires-clause-piece_len_bound : goal.hear-on_addressed-requires-clause-piece_len_bound
-hear-on_addressed-requires-clause-piece_len_bound c = (heard-few (fine-is c.args.totals (omega arith) c.requires.totals_value) c.args.part.now (parted_in c.split-parted.result c.split-parted.new.point c.split-parted.new.addressed)
-    c.split-parted.ensures.addressed_after).1
+hear-on_addressed-requires-clause-piece_len_bound c = (heard-few (goal.at.hear-on_addressed-requires-clause-piece_len_bound c).After-split-parted).1
 
 pub returns : goal.returns
 returns c =

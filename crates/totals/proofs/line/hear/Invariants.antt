@@ -15,5 +15,3 @@ invariant-loop-taken l =
 abbrev pub decreases-loop-taken : goal.decreases-loop-taken
 decreases-loop-taken l =
     length l.piece - l.taken
-
--- ---- before the loop
