@@ -1,6 +1,6 @@
 -- `row::write_sums`: the row is put together in an array that holds the longest, and then put.
 -- Assumes nothing.
-use mathlib.Core.Path.{◌≡◌, sym, ap, ◌∙◌}
+use mathlib.Core.Path.{◌≡◌, sym, ap, subst⁻¹, ◌∙◌}
 use mathlib.Core.List.{List}
 use Prim.Native.Nat.{ℕ, ◌≤◌, zero-le}
 use native.Mathlib.Omega.{arith}
@@ -31,16 +31,9 @@ stands c =
     (then _ _ _ c.put_marked-reserved.ensures
     (then _ _ _ c.put-apart.ensures
     (then _ _ _ c.put_difference-differed.ensures
-    (last c.put-ended.ensures)))))))) zero-le fits in (
-      omega (
-        arith,
-        ap (λ (d : Ended). d.end) lies,
-        ap (λ (d : Ended). length d.out) lies,
-        length-laid (replicate most_row 0) 0 row (omega (arith, fits)),
-        fits,
-      ),
-      ap (λ (d : Ended). take d.end d.out) lies ∙ take-placed row (replicate most_row 0),
-    )
+    (last c.put-ended.ensures)))))))) zero-le fits in
+    subst⁻¹ (λ (d : Ended). (d.end ≤ length d.out) × (take d.end d.out ≡ row)) lies
+    (omega (arith, length-laid (replicate most_row 0) 0 row (omega (arith, fits)), fits), take-placed row (replicate most_row 0))
 
 pub slice_bounds-row-end : goal.slice_bounds-row-end
 slice_bounds-row-end c = (stands (goal.at.slice_bounds-row-end c).After-put-ended).0
