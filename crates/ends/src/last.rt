@@ -45,6 +45,7 @@ pub fn write_ending(ending: Ending, records: u32, out: &mut [u8]) -> Placed
 }
 
 // Puts the word for an ending, and the blank after it, to the front of a row.
+#[tactic(auto, unfolding(text::specs::Ascii::ascii, tape_spec::specs::Rows::word))]
 fn put_word(ending: Ending, row: &mut [u8]) -> Placed
     ensures { ended result row.new ≡ put_of (word ending) row.old 0 }
 {

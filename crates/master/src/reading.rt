@@ -13,6 +13,7 @@ const MOST_NACK: u8 = 6;
 // Reads the reply to a request: its content, the check cut off. Refuses a request that a reader does not accept (BadRequest), a reply
 // with another identifier or none (WrongId), with another command, none or an echoed write (WrongCommand), with data of another length
 // (WrongLength), and a sign that is no answer to this request (WrongReason), in this order.
+#[tactic(auto, unfolding(request_spec::specs::Reading::reply_read))]
 pub fn read_reply(identifier: u8, code: u8, data: &[u8], reply: &[u8]) -> Reading
     ensures { understood (data_of reply.now) result ≡ reply_read identifier code «data».now reply.now }
 {
@@ -24,6 +25,7 @@ pub fn read_reply(identifier: u8, code: u8, data: &[u8], reply: &[u8]) -> Readin
 }
 
 // The reply to this command.
+#[tactic(auto, unfolding(request_spec::specs::Reading::read_as))]
 fn read_as(identifier: u8, code: u8, command: Command, reply: &[u8]) -> Reading
     ensures { understood (data_of reply.now) result ≡ read_as identifier code reply.now command }
 {
@@ -59,6 +61,7 @@ pub fn data_of(content: &[u8]) -> &[u8]
 }
 
 // An ACK or a NACK, with this data.
+#[tactic(auto, unfolding(request_spec::specs::Reading::sign_read, request_spec::specs::Reading::reason_read))]
 fn read_sign(command: Command, data: &[u8]) -> Reading
     ensures { understood «data».now result ≡ sign_read command «data».now }
 {
@@ -102,6 +105,7 @@ fn is_nack(reason: u8) -> bool
 }
 
 // The request's own command, with this data.
+#[tactic(auto, unfolding(request_spec::specs::Reading::data_read))]
 fn read_data(command: Command, data: &[u8]) -> Reading
     ensures { understood «data».now result ≡ data_read command «data».now }
 {

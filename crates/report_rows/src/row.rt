@@ -14,6 +14,7 @@ const MOST_ROW: usize = 108;
 const BLANK: u8 = b' ';
 
 // Writes the row above both lines' to the front of `out`. Refuses an `out` that is shorter (NoRoom).
+#[tactic(auto, unfolding(text::specs::Ascii::ascii, totals_spec::specs::Rows::title_row))]
 pub fn write_title(out: &mut [u8]) -> Placed
     ensures { ended result out.new ≡ put_of title_row out.old 0 }
 {
@@ -39,6 +40,7 @@ pub fn write_sums(line: Line, sums: Sums, out: &mut [u8]) -> Placed
 }
 
 // Puts the letter of a line to the front of a row.
+#[tactic(auto, unfolding(text::specs::Ascii::ascii, totals_spec::specs::Rows::line_name))]
 fn put_name(line: Line, row: &mut [u8]) -> Placed
     ensures { ended result row.new ≡ put_of (line_name line) row.old 0 }
 {

@@ -103,6 +103,7 @@ const POINT: [u8; 3] = *b" P ";
 const ADDRESSED: [u8; 3] = *b" A ";
 
 // P or A, between blanks.
+#[tactic(auto, unfolding(text::specs::Ascii::ascii, tape_spec::specs::Rows::letter))]
 fn letter(line: Line) -> [u8; 3]
     ensures { result ≡ letter_of line }
 {
@@ -158,6 +159,7 @@ const ADDR: Word = Word {
 };
 
 // The name of an event; nothing where nothing happened.
+#[tactic(auto, unfolding(text::specs::Ascii::ascii, tape_spec::specs::Rows::name_of))]
 fn name(event: Event) -> Word
     ensures { Spells result (name_of (named event)) }
 {

@@ -8,6 +8,7 @@ use station::takes;
 use wire_spec::{ESCAPE, LAST_PARTNER, MOST_CONTENT, START, STOP};
 
 // What a byte is to a receiver of this station, in this phase and after this many content bytes. FD goes before all else.
+#[tactic(auto, unfolding(link_spec::specs::Turning::within, link_spec::specs::Turning::turn))]
 pub fn at_byte(station: Station, phase: Phase, count: usize, byte: u8) -> Turn
     ensures { move_of result ≡ move_at station phase count byte }
 {
@@ -22,6 +23,7 @@ pub fn at_byte(station: Station, phase: Phase, count: usize, byte: u8) -> Turn
 }
 
 // Inside a frame, at another byte than FD.
+#[tactic(auto, unfolding(link_spec::specs::Turning::content_byte, link_spec::specs::Turning::inside))]
 fn inside(station: Station, count: usize, byte: u8) -> Turn
     ensures { result ≡ inside_of station count byte }
 {
@@ -43,6 +45,7 @@ fn inside(station: Station, count: usize, byte: u8) -> Turn
 }
 
 // At a byte that is neither start nor stop nor address.
+#[tactic(auto, unfolding(link_spec::specs::Turning::plain))]
 fn plain(count: usize, byte: u8) -> Turn
     ensures { result ≡ plain_of count byte }
 {
@@ -53,6 +56,7 @@ fn plain(count: usize, byte: u8) -> Turn
 }
 
 // After an FF, at another byte than FD.
+#[tactic(auto, unfolding(link_spec::specs::Turning::partner))]
 fn partner(count: usize, byte: u8) -> Turn
     ensures { result ≡ partner_of count byte }
 {
@@ -63,6 +67,7 @@ fn partner(count: usize, byte: u8) -> Turn
 }
 
 // At the last wire byte of a content byte.
+#[tactic(auto, unfolding(link_spec::specs::Turning::kept))]
 fn kept(count: usize, byte: u8) -> Turn
     ensures { result ≡ kept_of count byte }
 {

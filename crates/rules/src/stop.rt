@@ -15,6 +15,7 @@ pub fn at_stop(station: Station, content: &[u8]) -> Verdict
 }
 
 // The same, of frames with this check.
+#[tactic(auto, unfolding(link_spec::specs::Events::verdict))]
 fn by_check(check: Check, content: &[u8]) -> Verdict
     ensures { result ≡ verdict check content.now }
 {

@@ -7,41 +7,34 @@ use native.Mathlib.Omega.{arith}
 use lib.ListN.{length, take}
 use Rattle.ground.specs.Laying.{Ended, ended, placed, put}
 use Rattle.ground.proofs.Laws.Laying.{last, then, puts-placed, take-placed}
-use Rattle.ground.specs.declared.laying.Placed.{Placed}
-use Rattle.link_spec.specs.Events.{Name, named}
-use Rattle.tape_spec.specs.declared.tape.Line.{Line}
-use Rattle.tape_spec.specs.Limits.{most_records}
-use Rattle.text.specs.Decimal.{decimal}
-use Rattle.tape_spec.specs.Rows.{letter, name_of}
+use Rattle.link_spec.specs.Events.{named}
 use Rattle.rows.specs.Heads.{most_head, head_of}
 use Rattle.rows.proofs.Laws.Heads.{head-within}
 use Rattle.rows.proofs.event.lay_head.Goals as goal
+use Rattle.rows.proofs.event.lay_head.Goals.{After-put-named}
 
--- the head lies at the front of its places
-lies : (number : ℕ) (line : Line) (event : Name) (head : List ℕ) (r : Placed) (o : List ℕ) (r' : Placed) (o' : List ℕ) {e : Ended}
-    → number ≤ most_records → length head ≡ most_head → ended r o ≡ put (decimal number) head 0
-    → ended r' o' ≡ put (letter line) o r.end → e ≡ put (name_of event) o' r'.end → e ≡ placed (head_of number line event) head 0
-lies number line event head r o r' o' few places counted lettered named =
-    puts-placed (then (decimal number) r o counted (then (letter line) r' o' lettered (last named))) zero-le
-    (omega (arith, head-within number line event few))
+-- the head that was asked for
+abbrev asked : After-put-named → List ℕ
+asked c = head_of c.args.number c.args.line (named c.args.event)
+
+within : (c : After-put-named) → length (asked c) ≤ most_head
+within c = head-within c.args.number c.args.line (named c.args.event) (omega (arith, c.ranges))
+
+-- it lies at the front of its places
+lies : (c : After-put-named) → ended c.put-named.result c.put-named.new.out ≡ placed (asked c) c.args.head.now 0
+lies c =
+    puts-placed
+    (then _ _ _ c.put_decimal-counted.ensures
+    (then _ _ _ (c.put-lettered.ensures ∙ ap (λ (w : List ℕ). put w c.put_decimal-counted.new.out c.put_decimal-counted.result.end) c.letter.ensures)
+    (last (c.put-named.ensures ∙ ap (λ (w : List ℕ). put w c.put-lettered.new.out c.put-lettered.result.end) c.name-name.ensures.letters)))) zero-le
+    (omega (arith, c.requires, within c))
 
 pub returns-clause-upper_bound : goal.returns-clause-upper_bound
 returns-clause-upper_bound c =
-    let a = c.args in
-    omega (
-      arith,
-      head-within a.number a.line (named a.event) (omega (arith, c.ranges)),
-      ap (λ (d : Ended). d.end)
-          (lies a.number a.line (named a.event) a.head.now _ _ _ _ (omega (arith, c.ranges)) c.requires c.put_decimal-counted.ensures
-          (c.put-lettered.ensures ∙ ap (λ (w : List ℕ). put w c.put_decimal-counted.new.out c.put_decimal-counted.result.end) c.letter.ensures)
-          (c.put-named.ensures ∙ ap (λ (w : List ℕ). put w c.put-lettered.new.out c.put-lettered.result.end) c.name-name.ensures.letters)),
-    )
+    let p = (goal.at.returns-clause-upper_bound c).After-put-named in
+    omega (arith, within p, ap (λ (d : Ended). d.end) (lies p))
 
 pub returns-clause-head_after : goal.returns-clause-head_after
 returns-clause-head_after c =
-    let a = c.args in
-    ap (λ (d : Ended). take d.end d.out)
-    (lies a.number a.line (named a.event) a.head.now _ _ _ _ (omega (arith, c.ranges)) c.requires c.put_decimal-counted.ensures
-    (c.put-lettered.ensures ∙ ap (λ (w : List ℕ). put w c.put_decimal-counted.new.out c.put_decimal-counted.result.end) c.letter.ensures)
-    (c.put-named.ensures ∙ ap (λ (w : List ℕ). put w c.put-lettered.new.out c.put-lettered.result.end) c.name-name.ensures.letters))
-    ∙ take-placed (head_of a.number a.line (named a.event)) a.head.now
+    let p = (goal.at.returns-clause-head_after c).After-put-named in
+    ap (λ (d : Ended). take d.end d.out) (lies p) ∙ take-placed (asked p) c.args.head.now

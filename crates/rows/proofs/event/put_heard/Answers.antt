@@ -17,7 +17,6 @@ use Rattle.link_spec.specs.Receiving.{saying}
 use Rattle.tape_spec.specs.declared.tape.Line.{Line}
 use Rattle.tape_spec.specs.Rows.{row, name_of, event_row, carried}
 use Rattle.tape_spec.proofs.Laws.Rows.{no_row, frame_row}
--- the arm of the other events
 use Rattle.rows.proofs.event.put_heard.Goals as goal
 
 -- an event that is neither of the two that have arms of their own

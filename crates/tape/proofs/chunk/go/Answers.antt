@@ -22,6 +22,7 @@ use Rattle.tape.proofs.Laws.Chunks.{over, Goes, at-end, out-of-room, at_last, ne
 use Rattle.tape.proofs.chunk.go.Invariants.{asked}
 use Rattle.tape.proofs.chunk.go.Goals as goal
 use Rattle.tape.proofs.chunk.go.Goals.{
+  After-run-ran,
   then-loop-taken-test+else-out-written-ge-LEAST_ROOM,
   else-loop-taken-test,
   then-loop-taken-test+then-out-written-ge-LEAST_ROOM+in-Bad,
@@ -66,47 +67,28 @@ module _
   takes : (1 ≤ after.count) × (n + after.count ≤ most_records) × (taken + (2 * after.count - 1) ≤ length chunk)
   takes = (run-some _ _ roomy body-next heard, kind-next.few, kind-next.part)
 
+-- the same, where the run has been heard
+ran : (c : After-run-ran) → (1 ≤ c.run-ran.result.count) × (c.loop-taken.records + c.run-ran.result.count ≤ most_records)
+    × (c.loop-taken.taken + (2 * c.run-ran.result.count - 1) ≤ length c.args.chunk.now)
+ran c = takes c.loop-taken.invariant.0 c.in-Body.is c.if-out-written-ge-LEAST_ROOM.true c.receiver_on-receiver.ensures c.run-ran.ensures
+
 pub overflow_cast-records : goal.overflow_cast-records
-overflow_cast-records c =
-    omega (
-      arith,
-      takes c.loop-taken.invariant.0 c.in-Body.is c.if-out-written-ge-LEAST_ROOM.true c.receiver_on-receiver.ensures c.run-ran.ensures,
-    )
+overflow_cast-records c = omega (arith, ran (goal.at.overflow_cast-records c).After-run-ran)
 
 pub overflow_add-records : goal.overflow_add-records
-overflow_add-records c =
-    omega (
-      arith,
-      takes c.loop-taken.invariant.0 c.in-Body.is c.if-out-written-ge-LEAST_ROOM.true c.receiver_on-receiver.ensures c.run-ran.ensures,
-    )
+overflow_add-records c = omega (arith, ran (goal.at.overflow_add-records c).After-run-ran)
 
 pub overflow_mul-taken : goal.overflow_mul-taken
-overflow_mul-taken c =
-    omega (
-      arith,
-      takes c.loop-taken.invariant.0 c.in-Body.is c.if-out-written-ge-LEAST_ROOM.true c.receiver_on-receiver.ensures c.run-ran.ensures,
-    )
+overflow_mul-taken c = omega (arith, ran (goal.at.overflow_mul-taken c).After-run-ran)
 
 pub overflow_sub-taken : goal.overflow_sub-taken
-overflow_sub-taken c =
-    omega (
-      arith,
-      takes c.loop-taken.invariant.0 c.in-Body.is c.if-out-written-ge-LEAST_ROOM.true c.receiver_on-receiver.ensures c.run-ran.ensures,
-    )
+overflow_sub-taken c = omega (arith, ran (goal.at.overflow_sub-taken c).After-run-ran)
 
 pub overflow_add-taken-in-Body : goal.overflow_add-taken-in-Body
-overflow_add-taken-in-Body c =
-    omega (
-      arith,
-      takes c.loop-taken.invariant.0 c.in-Body.is c.if-out-written-ge-LEAST_ROOM.true c.receiver_on-receiver.ensures c.run-ran.ensures,
-    )
+overflow_add-taken-in-Body c = omega (arith, ran (goal.at.overflow_add-taken-in-Body c).After-run-ran)
 
 pub loop-taken-smaller : goal.loop-taken-smaller
-loop-taken-smaller c =
-    omega (
-      arith,
-      takes c.loop-taken.invariant.0 c.in-Body.is c.if-out-written-ge-LEAST_ROOM.true c.receiver_on-receiver.ensures c.run-ran.ensures,
-    )
+loop-taken-smaller c = omega (arith, ran (goal.at.loop-taken-smaller c).After-run-ran)
 
 pub loop-taken-preserved : goal.loop-taken-preserved
 loop-taken-preserved c =
