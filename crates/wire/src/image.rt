@@ -8,6 +8,7 @@ use ground::{Counted, Refusal};
 use wire_spec::{MOST_CONTENT, START, STOP};
 
 // The length of a content's image. Refuses a content over 64 bytes (TooLong).
+#[tactic(auto, unfolding(wire_spec::specs::Writing::length_asked))]
 pub fn image_length(content: &[u8]) -> Counted
     ensures { tally result ≡ length_asked content.now }
 {
@@ -19,6 +20,7 @@ pub fn image_length(content: &[u8]) -> Counted
 
 // Writes the image of a content to the front of `out`, and answers its length. Refuses an `out` shorter than the image (NoRoom), and then
 // leaves it as it was. How long a content may be is its caller's matter.
+#[tactic(auto, unfolding(wire_spec::specs::Writing::image_written, wire_spec::specs::Image::image))]
 pub fn write_image(content: &[u8], out: &mut [u8]) -> Counted
     ensures { after result out.new ≡ image_written content.now out.old }
 {

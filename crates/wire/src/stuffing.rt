@@ -9,6 +9,7 @@ use wire_spec::ESCAPE;
 const FIRST_SPECIAL: u8 = 0xFD;
 
 // Lays one byte, stuffed, into `room` at the place `at`, and answers the place after it.
+#[tactic(auto, unfolding(wire_spec::specs::Stuffing::stuffed))]
 fn stuff_byte(byte: u8, room: &mut [u8], at: usize) -> usize
     requires { at + length (stuffed_of byte) ≤ length room.old }
     ensures { (result ≡ at + length (stuffed_of byte)) × (room.new ≡ laid room.old at (stuffed_of byte)) }
@@ -37,6 +38,7 @@ pub(crate) fn stuff(content: &[u8], room: &mut [u8]) -> usize
 }
 
 // How many bytes a content travels as: one for each of its bytes, and one more for each FD, FE and FF.
+#[tactic(auto, unfolding(wire_spec::specs::Stuffing::specials))]
 pub(crate) fn stuffed_length(content: &[u8]) -> usize
     ensures { result ≡ length (stuffing_of content.now) }
 {

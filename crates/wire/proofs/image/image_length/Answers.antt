@@ -6,11 +6,8 @@ use native.Mathlib.Omega.{arith}
 use Rattle.ground.specs.Refusals.{counted}
 use Rattle.wire_spec.proofs.Laws.Stuffing.{length-stuffing, specials-most}
 use Rattle.wire_spec.proofs.Laws.Image.{length-image, image-stuffing}
-use Rattle.wire_spec.proofs.Laws.Writing.{length-refused, length-answered}
+use Rattle.wire_spec.proofs.Laws.Writing.{length-answered}
 use Rattle.wire.proofs.image.image_length.Goals as goal
-
-pub returns-then-content-gt-MOST_CONTENT : goal.returns-then-content-gt-MOST_CONTENT
-returns-then-content-gt-MOST_CONTENT c = c.refused.ensures ∙ sym (length-refused c.args.content.now (omega arith))
 
 pub overflow_add-stuffed_length : goal.overflow_add-stuffed_length
 overflow_add-stuffed_length c =

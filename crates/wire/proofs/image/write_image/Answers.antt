@@ -13,18 +13,8 @@ use Rattle.wire_spec.specs.Stuffing.{stuffing}
 use Rattle.wire_spec.specs.Image.{start, stop, image}
 use Rattle.wire_spec.specs.Writing.{leaving}
 use Rattle.wire_spec.proofs.Laws.Image.{image-stuffing}
-use Rattle.wire_spec.proofs.Laws.Writing.{image-laid, written-short, written-whole}
+use Rattle.wire_spec.proofs.Laws.Writing.{image-laid, written-whole}
 use Rattle.wire.proofs.image.write_image.Goals as goal
-
-pub returns-then-out-lt2 : goal.returns-then-out-lt2
-returns-then-out-lt2 c =
-    let a = c.args in
-    rw (c.refused.ensures, written-short a.content.now a.out.now (omega (arith, image-stuffing a.content.now)))
-
-pub returns-then-out-stuffed : goal.returns-then-out-stuffed
-returns-then-out-stuffed c =
-    let a = c.args in
-    rw (c.refused-then-out-stuffed.ensures, written-short a.content.now a.out.now (omega (arith, c.stuffed_length-stuffed.ensures, image-stuffing a.content.now)))
 
 pub returns : goal.returns
 returns c =
