@@ -12,6 +12,7 @@ use link_spec::{LAST_ADDRESS, MOST_DATA};
 
 // Writes the image of a point frame to the front of `out`, and answers its length. Refuses data over 60 bytes (TooLong) and `out`
 // shorter than the image (NoRoom), in this order; a refusal leaves `out` as it was.
+#[tactic(auto, unfolding(link_spec::specs::Frame::point_content, link_spec::specs::Writers::point_written))]
 pub fn write_point(identifier: u8, command: u8, data: &[u8], out: &mut [u8]) -> Counted
     ensures { after result out.new ≡ point_written identifier command «data».now out.old }
 {
@@ -20,6 +21,7 @@ pub fn write_point(identifier: u8, command: u8, data: &[u8], out: &mut [u8]) -> 
 
 // Writes the image of an addressed frame to the front of `out`, and answers its length. Refuses data over 60 bytes (TooLong), address
 // FD..FF (BadAddress) and `out` shorter than the image (NoRoom), in this order; a refusal leaves `out` as it was.
+#[tactic(auto, unfolding(link_spec::specs::Frame::addressed_content, link_spec::specs::Writers::addressed_written))]
 pub fn write_addressed(
     address: u8,
     identifier: u8,
@@ -40,6 +42,7 @@ pub fn write_addressed(
 }
 
 // Writes the image of a frame with this head, or refuses it: `never` says that its address is never one.
+#[tactic(auto, unfolding(link_spec::specs::Writers::written_unless))]
 fn write_unless(never: bool, check: Check, head: &[u8], data: &[u8], out: &mut [u8]) -> Counted
     requires { length head.now + check_length check ≡ least_content }
     ensures { after result out.new
