@@ -1,9 +1,8 @@
 -- Bytes laid into a buffer over what stood there.
 -- 01, Refusal numbers: a call of ours, refused with the number of row 1 (docs/DECISIONS.md, ground). Assumes nothing.
-use Rattle.std.specs.Prelude.{ℕ, ◌+◌, ◌-◌, cond, List, ◌++◌, ltb, length, take, drop}
+use Rattle.std.specs.Prelude.{ℕ, ◌+◌, ◌-◌, cond, List, ◌++◌, ltb, length, take, drop, Result, Ok, Err}
 use Rattle.ground.specs.declared.refusal.Refusal.{Refusal}
 use Rattle.ground.specs.declared.refusal.Refusal.TheVariants.{NoRoom}
-use Rattle.ground.specs.declared.laying.Placed.{Placed}
 use Rattle.ground.specs.Refusals.{number}
 
 -- the buffer with `bytes` from the place `at` on; what stands before and after them stays
@@ -16,9 +15,10 @@ pub record Ended : Type 0 where
   pub end : ℕ
   pub out : List ℕ
 
--- what a call's result says, and what it left
-abbrev pub ended : Placed → List ℕ → Ended
-ended r out = record { refusal = number r.refusal; end = r.end; out = out }
+-- what a call's result says that was to put bytes from the place `at` on, and what it left; refused, it ends where it was to begin
+abbrev pub ended : ℕ → Result ℕ Refusal → List ℕ → Ended
+ended at (Ok end) out = record { refusal = 0; end = end; out = out }
+ended at (Err why) out = record { refusal = number why; end = at; out = out }
 
 -- a refused call leaves the buffer as before
 abbrev pub unplaced : Refusal → List ℕ → ℕ → Ended

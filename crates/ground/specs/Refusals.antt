@@ -1,13 +1,10 @@
 -- The refusals with their numbers, an answer that counts bytes in these numbers, and what a refused call leaves. 01, Refusal numbers, the
 -- table and below it; 02, L1 for number 10. Assumes nothing.
-use Rattle.std.specs.Prelude.{ℕ, ◌≡◌}
+use Rattle.std.specs.Prelude.{ℕ, ◌≡◌, Option, None, Some, Result, Ok, Err}
 use Rattle.ground.specs.declared.refusal.Refusal.{Refusal}
-use Rattle.ground.specs.declared.refusal.Refusal.TheVariants.{None, NoRoom, TooLong, BadAddress, BadState, BadRequest, WrongId, WrongCommand, WrongLength, WrongReason, TapeTooLong}
-use Rattle.ground.specs.declared.refusal.Counted.{Counted}
+use Rattle.ground.specs.declared.refusal.Refusal.TheVariants.{NoRoom, TooLong, BadAddress, BadState, BadRequest, WrongId, WrongCommand, WrongLength, WrongReason, TapeTooLong}
 
--- 0 is no refusal
 abbrev pub number : Refusal → ℕ
-number None = 0
 number NoRoom = 1
 number TooLong = 2
 number BadAddress = 3
@@ -19,13 +16,19 @@ number WrongLength = 8
 number WrongReason = 9
 number TapeTooLong = 10
 
+-- 0 is no refusal
+abbrev pub numbered : Option Refusal → ℕ
+numbered None = 0
+numbered (Some why) = number why
+
 pub record Tally : Type 0 where
   pub refusal : ℕ
   pub count : ℕ
 
 -- what a call's result says
-abbrev pub tally : Counted → Tally
-tally r = record { refusal = number r.refusal; count = r.count }
+abbrev pub tally : Result ℕ Refusal → Tally
+tally (Ok n) = record { refusal = 0; count = n }
+tally (Err why) = record { refusal = number why; count = 0 }
 
 -- a refused call returns the number and count 0
 abbrev pub refused : Refusal → Tally

@@ -4,5 +4,5 @@ ghost use Rattle.ground.specs.Lesser.{Least};
 pub fn least(a: usize, b: usize) -> usize
     ensures { Least a b result }
 {
-    if a < b { a } else { b }
+    a.min(b)
 }

@@ -5,6 +5,6 @@ mod laying;
 mod lesser;
 mod refusal;
 
-pub use laying::{Placed, put, room};
+pub use laying::{put, room};
 pub use lesser::least;
-pub use refusal::{Counted, Refusal, number};
+pub use refusal::{Refusal, number};

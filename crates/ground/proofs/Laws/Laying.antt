@@ -10,17 +10,23 @@ use lib.ListN.{length, take, drop, set, length-append, length-take, length-drop,
 use lib.Seq.{take_at, drop-drop, length-take-le, set_split, take_all, drop-append-add}
 use borrow.Author.Tests.{lt-ltb, le-ltb, ltb-false}
 use lib.Dec.{ltb}
-use borrow.Rule.Slice.PartMut.{put_mid, mid_of}
+use borrow.Rule.Slice.PartMut.{put_mid, mid_of, Post-is}
+use Rattle.std.specs.Prelude.{Result}
+use Rattle.ground.specs.declared.refusal.Refusal.{Refusal}
 use Rattle.ground.specs.declared.refusal.Refusal.TheVariants.{NoRoom}
-use Rattle.ground.specs.declared.laying.Placed.{Placed}
-use Rattle.ground.specs.Refusals.{Keeps}
+use Rattle.ground.specs.Refusals.{number, Keeps}
 use Rattle.ground.specs.Laying.{laid, onto, Ended, ended, unplaced, placed, put}
 use Rattle.ground.proofs.Laws.Choice.{cond-elim}
+use Rattle.ground.proofs.Laws.Refusals.{number-some}
 
 -- nothing laid is nothing changed
 pub laid_nil : (l : List ℕ) (at : ℕ) → laid l at [] ≡ l
 unfolding laid
 laid_nil l at = rw (add-zero at, take-append-drop)
+
+pub laid_none : (l : List ℕ) (at : ℕ) (x : List ℕ) → length x ≡ 0 → laid l at x ≡ l
+laid_none l at [] none = laid_nil l at
+laid_none l at (b ∷ x) none = absurd (omega arith)
 
 pub length-laid : (l : List ℕ) (at : ℕ) (x : List ℕ) → at + length x ≤ length l → length (laid l at x) ≡ length l
 unfolding laid
@@ -93,6 +99,11 @@ laid-part l at x h =
     rw (take_all (length l - at) (drop at l) e, drop_of_length-le (drop at l) e, zero-add, drop-drop)
     (simp (append_assoc, append-nil))
 
+-- a part of a buffer that is written over with bytes of its length has them laid there
+pub laid-piece : (l : List ℕ) (at : ℕ) (x : List ℕ) → at + length x ≤ length l → put_mid at (at + length x - at) l x ≡ laid l at x
+unfolding laid
+laid-piece l at x h = ap (λ (rest : List ℕ). take at l ++ (x ++ rest)) (Post-is at (at + length x) l (omega arith))
+
 -- ---- bytes put where there is room, and where there is none
 
 pub put_refused : (bytes out : List ℕ) (at : ℕ) → length out - at < length bytes → put bytes out at ≡ unplaced NoRoom out at
@@ -128,8 +139,8 @@ put-within bytes out at begins =
     (λ roomy. omega (arith, ltb-false (length out - at) (length bytes) roomy))
 
 -- so a call that puts bytes ends within the buffer, refused or not
-pub put-ends : (r : Placed) {left : List ℕ} (bytes out : List ℕ) (at : ℕ) → ended r left ≡ put bytes out at → at ≤ length out → r.end ≤ length out
-put-ends r bytes out at says begins = rw (ap (λ (e : Ended). e.end) says) (put-within bytes out at begins)
+pub put-ends : {e : Ended} (bytes out : List ℕ) (at : ℕ) → e ≡ put bytes out at → at ≤ length out → e.end ≤ length out
+put-ends bytes out at says begins = rw (ap (λ (e : Ended). e.end) says) (put-within bytes out at begins)
 
 -- ---- where there is room: nothing put, two texts put in a row, and a text put to the front
 
@@ -155,19 +166,24 @@ put_whole bytes buffer says same = put-laid bytes buffer 0 says (omega arith) �
 -- Calls that put one part of a text after the other, from a place of a buffer on, and what the last of them answers and leaves.
 pub data Puts : List ℕ → ℕ → List ℕ → Ended → Type 0 where
   last : {out : List ℕ} {at : ℕ} {x : List ℕ} {e : Ended} → e ≡ put x out at → Puts out at x e
-  then : {out : List ℕ} {at : ℕ} {y : List ℕ} {e : Ended} (x : List ℕ) (r : Placed) (o : List ℕ)
-      → ended r o ≡ put x out at → Puts o r.end y e → Puts out at (x ++ y) e
+  then : {out : List ℕ} {at : ℕ} {y : List ℕ} {e : Ended} (x : List ℕ) (end : ℕ) (o : List ℕ)
+      → record { refusal = 0; end = end; out = o } ≡ put x out at → Puts o end y e → Puts out at (x ++ y) e
 
 -- where there is room for the whole text, they put the whole text
 pub puts-placed : {out : List ℕ} {at : ℕ} {text : List ℕ} {e : Ended} → Puts out at text e → at ≤ length out → length text ≤ length out - at
     → e ≡ placed text out at
 puts-placed {out} {at} {text} (last says) begins fits = says ∙ put-placed text out at fits
-puts-placed {out} {at} (then {y} x r o says more) begins fits =
+puts-placed {out} {at} (then {y} x k o says more) begins fits =
     let n : length (x ++ y) ≡ length x + length y = length-append x y in
     let first = says ∙ put-placed x out at (omega arith) in
-    let end : r.end ≡ at + length x = ap (λ (d : Ended). d.end) first in
+    let end : k ≡ at + length x = ap (λ (d : Ended). d.end) first in
     let lies : o ≡ laid out at x = ap (λ (d : Ended). d.out) first in
     let same : length o ≡ length out = ap length lies ∙ length-laid out at x (omega arith) in
     puts-placed more (omega arith) (omega arith)
     ∙ ap₂ (placed y) lies end
     ∙ placed-more x y out at begins
+
+-- and then none of them is refused
+pub puts-some : {out : List ℕ} {at : ℕ} {text : List ℕ} (why : Refusal) {end : ℕ} {o : List ℕ}
+    → Puts out at text (record { refusal = number why; end = end; out = o }) → at ≤ length out → length text ≤ length out - at → ⊥
+puts-some why puts begins fits = number-some why (ap (λ (e : Ended). e.refusal) (puts-placed puts begins fits))
