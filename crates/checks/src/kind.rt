@@ -6,7 +6,7 @@ use crate::register::fcs;
 use crate::total::sum;
 
 // The FCS on the point line, the sum on the addressed line.
-#[derive(Clone, Copy)]
+#[derive(Clone, Copy, Debug, PartialEq, Eq)]
 pub enum Check {
     Fcs,
     Sum,

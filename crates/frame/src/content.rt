@@ -6,12 +6,12 @@ ghost use Rattle.wire_spec.specs.Limits.{most_content};
 ghost use Rattle.wire_spec.specs.Writing.{after, image_written};
 
 use checks::{Check, check_length, fcs, sum};
-use ground::{Counted, put};
+use ground::{Refusal, put};
 use wire::{MOST_CONTENT, write_image};
 
 // Writes the image of the frame with this head and data, known to be within the limit, to the front of `out`, and answers its length.
 // Refuses an `out` shorter than the image (NoRoom), and then leaves it as it was.
-pub(crate) fn write_frame(check: Check, head: &[u8], data: &[u8], out: &mut [u8]) -> Counted
+pub(crate) fn write_frame(check: Check, head: &[u8], data: &[u8], out: &mut [u8]) -> Result<usize, Refusal>
     requires { length head.now + length «data».now + check_length check ≤ most_content }
     ensures { after result out.new ≡ image_written (with_check check (head.now ++ «data».now)) out.old }
 {

@@ -3,12 +3,12 @@ ghost use Rattle.std.specs.Prelude.{◌≡◌, ◌+◌, ◌*◌, ◌≤◌, ◌<
 ghost use Rattle.ground.specs.Laying.{laid, ended, put as put_of};
 ghost use Rattle.text.specs.Hex.{digit as digit_of, pair, pairs};
 
-use ground::{Placed, Refusal, put, room};
+use ground::{Refusal, put, room};
 
 // Puts the bytes as hex pairs joined by dots, `-` for none, into `out` from the place `at` on. Refuses an `out` that ends before them
 // (NoRoom).
-pub fn put_pairs(bytes: &[u8], out: &mut [u8], at: usize) -> Placed
-    ensures { ended result out.new ≡ put_of (pairs bytes.now) out.old at }
+pub fn put_pairs(bytes: &[u8], out: &mut [u8], at: usize) -> Result<usize, Refusal>
+    ensures { ended at result out.new ≡ put_of (pairs bytes.now) out.old at }
 {
     if bytes.len() == 0 {
         return put(&[b'-'], out, at);
@@ -16,16 +16,10 @@ pub fn put_pairs(bytes: &[u8], out: &mut [u8], at: usize) -> Placed
     let room = room(out, at);
     // three places for each pair but one
     if bytes.len() > room / 3 + room % 3 / 2 {
-        return Placed {
-            refusal: Refusal::NoRoom,
-            end: at,
-        };
+        return Err(Refusal::NoRoom);
     }
     lay_pairs(bytes, out, at);
-    Placed {
-        refusal: Refusal::None,
-        end: at + (3 * bytes.len() - 1),
-    }
+    Ok(at + (3 * bytes.len() - 1))
 }
 
 // Lays the hex pairs of the bytes into `out` from the place `at` on.

@@ -4,36 +4,36 @@ ghost use Rattle.ground.specs.Refusals.{tally};
 ghost use Rattle.wire_spec.specs.Writing.{after, length_asked, image_written};
 
 use crate::stuffing::{stuff, stuffed_length};
-use ground::{Counted, Refusal};
+use ground::Refusal;
 use wire_spec::{MOST_CONTENT, START, STOP};
 
 // The length of a content's image. Refuses a content over 64 bytes (TooLong).
 #[tactic(auto, unfolding(wire_spec::specs::Writing::length_asked))]
-pub fn image_length(content: &[u8]) -> Counted
+pub fn image_length(content: &[u8]) -> Result<usize, Refusal>
     ensures { tally result ≡ length_asked content.now }
 {
     if content.len() > MOST_CONTENT {
-        return Counted::refused(Refusal::TooLong);
+        return Err(Refusal::TooLong);
     }
-    Counted::of(2 + stuffed_length(content))
+    Ok(2 + stuffed_length(content))
 }
 
 // Writes the image of a content to the front of `out`, and answers its length. Refuses an `out` shorter than the image (NoRoom), and then
 // leaves it as it was. How long a content may be is its caller's matter.
 #[tactic(auto, unfolding(wire_spec::specs::Writing::image_written, wire_spec::specs::Image::image))]
-pub fn write_image(content: &[u8], out: &mut [u8]) -> Counted
+pub fn write_image(content: &[u8], out: &mut [u8]) -> Result<usize, Refusal>
     ensures { after result out.new ≡ image_written content.now out.old }
 {
     let stuffed = stuffed_length(content);
     // apart, since the stuffing of a very long content and two bytes more could be more than a number holds
     if out.len() < 2 {
-        return Counted::refused(Refusal::NoRoom);
+        return Err(Refusal::NoRoom);
     }
     if out.len() - 2 < stuffed {
-        return Counted::refused(Refusal::NoRoom);
+        return Err(Refusal::NoRoom);
     }
     out[0] = START;
     stuff(content, &mut out[1..]);
     out[1 + stuffed] = STOP;
-    Counted::of(2 + stuffed)
+    Ok(2 + stuffed)
 }

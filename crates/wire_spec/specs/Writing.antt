@@ -1,9 +1,8 @@
 -- What the calls on images answer and leave in the buffer lent to them, for every input.
 -- 01, Layout of a frame, the last paragraph, and Refusal numbers. Assumes nothing.
-use Rattle.std.specs.Prelude.{ℕ, cond, List, ltb, length}
+use Rattle.std.specs.Prelude.{ℕ, cond, List, ltb, length, Result}
 use Rattle.ground.specs.declared.refusal.Refusal.{Refusal}
 use Rattle.ground.specs.declared.refusal.Refusal.TheVariants.{NoRoom, TooLong}
-use Rattle.ground.specs.declared.refusal.Counted.{Counted}
 use Rattle.ground.specs.Refusals.{Tally, tally as tally_of, refused, counted}
 use Rattle.ground.specs.Laying.{onto}
 use Rattle.wire_spec.specs.Limits.{most_content}
@@ -22,7 +21,7 @@ abbrev pub leaving : Tally → List ℕ → After
 leaving says out = record { tally = says; out = out }
 
 -- what a call's result says, and what it left
-abbrev pub after : Counted → List ℕ → After
+abbrev pub after : Result ℕ Refusal → List ℕ → After
 after r out = leaving (tally_of r) out
 
 -- 01, Refusal numbers, below the table: a refused call returns the number and count 0, with buffers as before
