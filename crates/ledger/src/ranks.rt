@@ -1,30 +1,26 @@
 // The report that ends a tape.
-ghost use Rattle.std.specs.Prelude.{◌≡◌, false, ◌<◌};
-ghost use Rattle.totals_spec.specs.Whole.{line_report, ranked, no_report};
+ghost use Rattle.std.specs.Prelude.{◌≡◌, Ok, false, ◌<◌};
+ghost use Rattle.totals_spec.specs.Whole.{line_report, ranked};
 ghost use Rattle.totals_spec.specs.Adding.{bad_sums, reported_by, reported};
 
-use crate::state::{is_bad_totals, nothing};
+use crate::state::is_bad_totals;
 use ends::ending;
 use ground::Refusal;
 use tape_spec::{Ending, Line};
 use totals_spec::{LineReport, Report, Sums, Totals};
 
 // Ranks both lines of a tape that has no byte more, the one that was heard more first and the point line when they are equal. Refuses totals
-// that `is_bad_totals` names (BadState), and a tape on which a byte follows the last permitted record (TapeTooLong); the answer is then
-// zeros.
+// that `is_bad_totals` names (BadState), and a tape on which a byte follows the last permitted record (TapeTooLong).
 #[tactic(auto, unfolding(totals_spec::specs::Adding::reported))]
-pub fn report(totals: Totals) -> Report
+pub fn report(totals: Totals) -> Result<Report, Refusal>
     ensures { reported_by result ≡ reported totals }
 {
     if is_bad_totals(totals) {
-        return no_report(Refusal::BadState);
+        return Err(Refusal::BadState);
     }
-    let tape = totals.tape;
-    let next = tape.next;
-    let ending = ending(next);
-    match ending {
-        Ending::Full => no_report(Refusal::TapeTooLong),
-        _ => rank(totals.point, totals.addressed, ending, tape.records),
+    match ending(totals.tape.next) {
+        Ending::Full => Err(Refusal::TapeTooLong),
+        ending => Ok(rank(totals.point, totals.addressed, ending, totals.tape.records)),
     }
 }
 
@@ -33,14 +29,13 @@ pub fn report(totals: Totals) -> Report
 fn rank(point: Sums, addressed: Sums, ending: Ending, records: u32) -> Report
     requires point_value { bad_sums records point ≡ false }
     requires addressed_value { bad_sums records addressed ≡ false }
-    ensures { reported_by result ≡ ranked point addressed ending records }
+    ensures { reported_by (Ok result) ≡ ranked point addressed ending records }
 {
     let is_louder = addressed.heard > point.heard;
     let point = line_report(Line::Point, point);
     let addressed = line_report(Line::Addressed, addressed);
     if is_louder {
         return Report {
-            refusal: Refusal::None,
             first: addressed,
             second: point,
             ending,
@@ -48,7 +43,6 @@ fn rank(point: Sums, addressed: Sums, ending: Ending, records: u32) -> Report
         };
     }
     Report {
-        refusal: Refusal::None,
         first: point,
         second: addressed,
         ending,
@@ -66,20 +60,5 @@ fn line_report(line: Line, sums: Sums) -> LineReport
         line,
         sums,
         difference: sums.reserved as i64 - sums.heard as i64,
-    }
-}
-
-// What a refused call answers.
-fn no_report(refusal: Refusal) -> Report
-    ensures { reported_by result ≡ no_report refusal }
-{
-    let point = line_report(Line::Point, nothing());
-    let addressed = line_report(Line::Addressed, nothing());
-    Report {
-        refusal,
-        first: point,
-        second: addressed,
-        ending: Ending::End,
-        records: 0,
     }
 }

@@ -19,7 +19,7 @@ pub fn fresh_totals() -> Totals
 }
 
 // The sums of a line on which nothing was heard.
-pub(crate) fn nothing() -> Sums
+fn nothing() -> Sums
     ensures { result ≡ nothing_of }
 {
     Sums {
@@ -35,16 +35,9 @@ pub(crate) fn nothing() -> Sums
 pub fn is_bad_totals(totals: Totals) -> bool
     ensures { result ≡ bad_totals totals }
 {
-    let tape = totals.tape;
-    if is_bad_tape(tape) {
-        return true;
-    }
-    let point = totals.point;
-    if is_bad(tape.records, point) {
-        return true;
-    }
-    let addressed = totals.addressed;
-    is_bad(tape.records, addressed)
+    is_bad_tape(totals.tape)
+        || is_bad(totals.tape.records, totals.point)
+        || is_bad(totals.tape.records, totals.addressed)
 }
 
 // Whether so many records cannot give these sums: each counts one byte and one frame at most, and the longest image.
@@ -52,15 +45,6 @@ fn is_bad(records: u32, sums: Sums) -> bool
     ensures { result ≡ bad_sums records sums }
 {
     let records = records as u64;
-    if sums.frames > records {
-        return true;
-    }
-    if sums.heard > records {
-        return true;
-    }
     let most = MOST_IMAGE as u64 * records;
-    if sums.inside > most {
-        return true;
-    }
-    sums.reserved > most
+    sums.frames > records || sums.heard > records || sums.inside > most || sums.reserved > most
 }

@@ -7,26 +7,20 @@ use crate::split::split;
 use ground::{Refusal, least};
 use ledger::is_bad_totals;
 use tape_spec::{Next, Receivers, Tape};
-use totals_spec::{Added, Totals};
+use totals_spec::Totals;
 
 // Bytes of a line that are heard together at most.
 const MOST_PIECE: usize = 1024;
 
-// Adds up the whole chunk. Refuses totals that `is_bad_totals` names (BadState), and then leaves them as they were.
+// Adds up the whole chunk. Refuses totals that `is_bad_totals` names (BadState).
 #[tactic(auto, unfolding(totals_spec::specs::Adding::added))]
-pub fn add(totals: Totals, chunk: &[u8]) -> Added
-    ensures { added_out result ≡ added totals chunk.now }
+pub fn add(totals: Totals, chunk: &[u8]) -> Result<Totals, Refusal>
+    ensures { added_out totals result ≡ added totals chunk.now }
 {
     if is_bad_totals(totals) {
-        return Added {
-            refusal: Refusal::BadState,
-            totals,
-        };
+        return Err(Refusal::BadState);
     }
-    Added {
-        refusal: Refusal::None,
-        totals: add_all(totals, chunk),
-    }
+    Ok(add_all(totals, chunk))
 }
 
 // The same, of totals that no row of the refusal table names, part by part.

@@ -12,4 +12,4 @@ pub use ledger::{fresh_totals, report};
 pub use reel::is_over;
 pub use report_rows::{write_sums, write_title};
 pub use tape_spec::{Ending, Line};
-pub use totals_spec::{Added, LineReport, Report, Sums, Totals};
+pub use totals_spec::{LineReport, Report, Sums, Totals};

@@ -1,6 +1,7 @@
 -- What the calls that add up a tape answer, for every input. 02, L1, and 01, Refusal numbers, row 4 in its sense (docs/DECISIONS.md,
 -- ledger, report_rows and totals). Assumes nothing.
-use Rattle.std.specs.Prelude.{ℕ, ◌+◌, ◌*◌, Bool, cond, ◌||◌, List, [], ◌∷◌, ltb, length}
+use Rattle.std.specs.Prelude.{ℕ, ◌+◌, ◌*◌, Bool, cond, ◌||◌, List, [], ◌∷◌, ltb, length, Result, Ok, Err}
+use Rattle.ground.specs.declared.refusal.Refusal.{Refusal}
 use Rattle.ground.specs.declared.refusal.Refusal.TheVariants.{BadState, TapeTooLong}
 use Rattle.ground.specs.Refusals.{number}
 use Rattle.wire_spec.specs.Limits.{most_image}
@@ -17,9 +18,8 @@ use Rattle.tape_spec.specs.Frames.{bytes_on}
 use Rattle.tape_spec.specs.Taping.{tape_of, fresh_tape, after_kind, bad_tape, ending}
 use Rattle.totals_spec.specs.declared.totals.Sums.{Sums}
 use Rattle.totals_spec.specs.declared.totals.Totals.{Totals}
-use Rattle.totals_spec.specs.declared.totals.Added.{Added}
 use Rattle.totals_spec.specs.declared.totals.Report.{Report}
-use Rattle.totals_spec.specs.Whole.{is_frame, image_bytes, reserved_bytes, sums_of, Reported, nothing, ranked, no_report, is_full}
+use Rattle.totals_spec.specs.Whole.{is_frame, image_bytes, reserved_bytes, sums_of, Reported, in_order, nothing, ranked, no_report, is_full}
 
 -- before a tape's first byte
 abbrev pub fresh_totals : Totals
@@ -109,16 +109,19 @@ pub record AddedOut : Type 0 where
   pub refusal : ℕ
   pub totals : Totals
 
-abbrev pub added_out : Added → AddedOut
-added_out r = record { refusal = number r.refusal; totals = r.totals }
+-- of a call on these totals; refused, it leaves them as before
+abbrev pub added_out : Totals → Result Totals Refusal → AddedOut
+added_out t (Ok after) = record { refusal = 0; totals = after }
+added_out t (Err why) = record { refusal = number why; totals = t }
 
 -- a chunk is taken whole; a refused call leaves the totals as before
 unfoldable pub added : Totals → List ℕ → AddedOut
 added t chunk = cond (bad_totals t) (record { refusal = number BadState; totals = t }) (record { refusal = 0; totals = totals_after t chunk })
 
-abbrev pub reported_by : Report → Reported
-reported_by r =
-    record { refusal = number r.refusal; first = r.first; second = r.second; ending = r.ending; records = r.records }
+-- refused, it is no report
+abbrev pub reported_by : Result Report Refusal → Reported
+reported_by (Ok r) = in_order r.first r.second r.ending r.records
+reported_by (Err why) = no_report why
 
 -- the report of a tape that has no byte more. Order: 4, 10
 unfoldable pub reported : Totals → Reported

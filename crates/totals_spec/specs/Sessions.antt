@@ -1,13 +1,13 @@
 -- A session: a whole tape handed over in chunks, cut at will, and the report that ends it; and what is asked of a report. 02, L1.
 -- Assumes nothing.
-use Rattle.std.specs.Prelude.{ℕ, ◌+◌, ◌*◌, ◌≤◌, ◌≡◌, ◌⊎◌, true, cond, List, ◌∷◌, ◌++◌, pos, neg_ℤ, length, drop, ◌≤ℤ◌}
+use Rattle.std.specs.Prelude.{ℕ, ◌+◌, ◌*◌, ◌≤◌, ◌≡◌, ◌⊎◌, true, cond, List, ◌∷◌, ◌++◌, Result, pos, neg_ℤ, length, drop, ◌≤ℤ◌}
+use Rattle.ground.specs.declared.refusal.Refusal.{Refusal}
 use Rattle.tape_spec.specs.declared.tape.Line.{Line}
 use Rattle.tape_spec.specs.declared.tape.Line.TheVariants.{Point, Addressed}
 use Rattle.tape_spec.specs.Limits.{most_records}
 use Rattle.tape_spec.specs.Whole.{Record, taped}
 use Rattle.tape_spec.specs.Taping.{is_over}
 use Rattle.totals_spec.specs.declared.totals.Totals.{Totals}
-use Rattle.totals_spec.specs.declared.totals.Added.{Added}
 use Rattle.totals_spec.specs.declared.totals.LineReport.{LineReport}
 use Rattle.totals_spec.specs.declared.totals.Report.{Report}
 use Rattle.totals_spec.specs.Whole.{is_on, Reported}
@@ -17,14 +17,14 @@ use Rattle.totals_spec.specs.Adding.{fresh_totals, added_out, added, reported_by
 -- asked for; or there is one call more, on any chunk, empty too, that continues there, and the session goes on with the totals that the
 -- call answered.
 pub data TotalsSession (bytes : List ℕ) : Totals → ℕ → Reported → Type 0 where
-  over : {t : Totals} {before : ℕ} (r : Report)
+  over : {t : Totals} {before : ℕ} (r : Result Report Refusal)
       → (length bytes ≤ before) ⊎ (is_over t.tape.next ≡ true)
       → reported_by r ≡ reported t
       → TotalsSession bytes t before (reported_by r)
-  call : {t : Totals} {before : ℕ} {out : Reported} (chunk rest : List ℕ) (r : Added)
+  call : {t : Totals} {before : ℕ} {out : Reported} (chunk rest : List ℕ) (r : Result Totals Refusal)
       → drop before bytes ≡ chunk ++ rest
-      → added_out r ≡ added t chunk
-      → TotalsSession bytes r.totals (before + length chunk) out
+      → added_out t r ≡ added t chunk
+      → TotalsSession bytes (added_out t r).totals (before + length chunk) out
       → TotalsSession bytes t before out
 
 -- a session of the whole tape, from fresh totals on

@@ -1,5 +1,4 @@
 // The sums of each line of a tape, and the report that is made of them.
-use ground::Refusal;
 use tape_spec::{Ending, Line, Tape};
 
 // What a line has so far: frames listed, bytes heard, bytes inside the images of the listed frames, and bytes reserved for these.
@@ -19,13 +18,6 @@ pub struct Totals {
     pub addressed: Sums,
 }
 
-// What a call on a chunk answers: the totals for the next call.
-#[derive(Clone, Copy)]
-pub struct Added {
-    pub refusal: Refusal,
-    pub totals: Totals,
-}
-
 // A line's part of a report; the difference is what was reserved less what was heard.
 #[derive(Clone, Copy)]
 pub struct LineReport {
@@ -37,7 +29,6 @@ pub struct LineReport {
 // Both lines, the one that was heard more first, how the tape ended, and its whole records.
 #[derive(Clone, Copy)]
 pub struct Report {
-    pub refusal: Refusal,
     pub first: LineReport,
     pub second: LineReport,
     pub ending: Ending,
