@@ -1,13 +1,12 @@
 -- A call's statement leaves no choice: two results that it allows are equal. docs/STATEMENTS.md cites one of these, or one of
 -- ground's or wire_spec's, for each call.
 -- Assumes nothing.
-use mathlib.Core.Path.{◌≡◌, refl, sym, ap}
+use mathlib.Core.Path.{◌≡◌, refl, sym, ap, ◌∙◌}
 use mathlib.Core.List.{List}
 use mathlib.Core.Option.{Option, none, some}
 use Prim.Native.Nat.{ℕ}
 use Rattle.std.specs.Prelude.{Result, Ok, Err}
 use Rattle.ground.specs.declared.refusal.Refusal.{Refusal}
-use Rattle.ground.specs.Refusals.{number}
 use Rattle.ground.proofs.Laws.Refusals.{number-some}
 use Rattle.ground.proofs.Laws.Unique.{same, err-injective}
 use Rattle.request_spec.specs.declared.reply.Meaning.{Meaning}
