@@ -1,11 +1,10 @@
 -- What the reader's calls answer, and what they leave in the two buffers, for every input.
 -- 01, The point reader, by the numbers of its steps, and Refusal numbers, rows 1, 2, 4 and 5; 02, L2. Assumes nothing.
 use Rattle.std.specs.Prelude.{ℕ, ◌≤◌, ◌<◌, ◌≡◌, Bool, true, cond, ◌&&◌, ◌||◌, List, [], ◌∷◌, ltb, leb, length, Option, None, Some, Result, Ok, Err}
-use Rattle.core.specs.Result.{result_unwrap_or, result_err}
 use Rattle.std.proofs.Math.Option.{none, some}
 use Rattle.ground.specs.declared.refusal.Refusal.{Refusal}
 use Rattle.ground.specs.declared.refusal.Refusal.TheVariants.{NoRoom, TooLong, BadState as BAD, BadRequest}
-use Rattle.ground.specs.Refusals.{number, numbered}
+use Rattle.ground.specs.Refusals.{number}
 use Rattle.ground.specs.Laying.{onto}
 use Rattle.link_spec.specs.Events.{Name, FRAME, CHECK}
 use Rattle.request_spec.specs.declared.parameter.Parameter.TheVariants.{Speed}
@@ -27,6 +26,11 @@ use Rattle.reader_spec.specs.Asking.{asking}
 use Rattle.reader_spec.specs.Replies.{reply_image, reply_to}
 use Rattle.reader_spec.specs.Sending.{BufferName, OUT, STORE, buffer_named, Buffers, buffers_of}
 
+-- the number of a call's refusal; 0 is no refusal
+abbrev pub refusal_of : {A : Type 0} → Result A Refusal → ℕ
+refusal_of (Ok answer) = 0
+refusal_of (Err why) = number why
+
 -- ---- power-on
 
 -- a call's result in the paper's words
@@ -34,9 +38,13 @@ pub record PoweredOn : Type 0 where
   pub refusal : ℕ
   pub state : State
 
--- the reader as it was where the call refused
+-- the reader after the call; as it was where it refused
+abbrev pub powered_reader : Reader → Result Reader Refusal → Reader
+powered_reader reader (Ok after) = after
+powered_reader reader (Err why) = reader
+
 abbrev pub powering : Reader → Result Reader Refusal → PoweredOn
-powering reader r = record { refusal = numbered (result_err r); state = state_of (result_unwrap_or r reader) }
+powering reader r = record { refusal = refusal_of r; state = state_of (powered_reader reader r) }
 
 -- A power-on forgets the last command; a speed of 8..10 becomes 3, and all else stays: 3..7, both other parameters, whether the reader is fast. It
 -- refuses with 4 only.
@@ -74,14 +82,15 @@ pub record Answered : Type 0 where
   pub length : ℕ
   pub left : Buffers
 
--- the answer where the call did not refuse; and else the reader as it was, and an empty part of out
+-- the answer; where the call refused, the reader as it was and an empty part of out
 abbrev pub answer_of : Reader → Result Answer Refusal → Answer
-answer_of reader r = result_unwrap_or r (record { reader = reader; buffer = Out; length = 0 })
+answer_of reader (Ok answer) = answer
+answer_of reader (Err why) = record { reader = reader; buffer = Out; length = 0 }
 
 abbrev pub answer_says : Reader → Result Answer Refusal → Buffers → Answered
 answer_says reader r left =
     let a = answer_of reader r in
-    record { refusal = numbered (result_err r); state = state_of a.reader; buffer = buffer_named a.buffer; length = a.length; left = left }
+    record { refusal = refusal_of r; state = state_of a.reader; buffer = buffer_named a.buffer; length = a.length; left = left }
 
 -- no refusal: this state from now on, and the first bytes of one buffer to send
 abbrev pub sending : State → BufferName → ℕ → Buffers → Answered

@@ -3,7 +3,6 @@
 -- identifier and command of the last one executed since power-on gets the stored reply and executes nothing. 01, The point reader; 02, L2.
 -- Assumes nothing.
 use Rattle.std.specs.Prelude.{ℕ, ◌≡◌, Bool, true, false, cond, ◌&&◌, not, List, [], ◌∷◌, eqb, length, get_or, drop, take, Result, Ok, Err}
-use Rattle.core.specs.Result.{result_unwrap_or}
 use Rattle.std.proofs.Math.Option.{Option, none, some, map}
 use Rattle.ground.specs.declared.refusal.Refusal.{Refusal}
 use Rattle.request_spec.specs.declared.parameter.Parameter.{Parameter}
@@ -24,7 +23,7 @@ use Rattle.reader_spec.specs.State.{state_of, fresh_state}
 use Rattle.reader_spec.specs.Asking.{asking}
 use Rattle.reader_spec.specs.Replies.{reply_image, reply_to}
 use Rattle.reader_spec.specs.Sending.{Buffers, sent}
-use Rattle.reader_spec.specs.Answering.{Input, powering, powered_on, answer_of, Answered, answer_says, Answers}
+use Rattle.reader_spec.specs.Answering.{Input, powered_reader, powering, powered_on, answer_of, Answered, answer_says, Answers}
 
 -- ---- what the calls so far tell
 
@@ -179,20 +178,20 @@ StoreKept false h held store = Unit {0}
 pub record Call (alone : Bool) (h : History) (s : Reader) (held : List ℕ) : Type 0 where
   pub input : Input
   pub lent : Buffers
-  pub result : Result Answer Refusal
+  pub answer : Result Answer Refusal
   pub left : Buffers
   pub kept : StoreKept alone h held lent.store
   pub whole : length input.header ≡ header_length
-  pub says : Answers s input lent result left
+  pub says : Answers s input lent answer left
 
 module _ {alone : Bool} {h : History} {s : Reader} {held : List ℕ} (c : Call alone h s held) where
-  -- what it answers
-  abbrev pub answer : Answer
-  answer = answer_of s c.result
+  -- the reader for the next one
+  abbrev pub reader_after : Reader
+  reader_after = (answer_of s c.answer).reader
 
-  -- the same in the paper's words
+  -- what it answers in the paper's words
   abbrev pub outcome : Answered
-  outcome = answer_says s c.result c.left
+  outcome = answer_says s c.answer c.left
 
   -- it was not refused
   abbrev pub Done : Type 0
@@ -213,10 +212,10 @@ pub data ReaderSession (alone : Bool) : Reader → List ℕ → History → Type
   powered : {s : Reader} {held : List ℕ} {h : History} → ReaderSession alone s held h
       → (r : Result Reader Refusal)
       → powering s r ≡ powered_on (state_of s)
-      → ReaderSession alone (result_unwrap_or r s) held (powered_by h (powering s r).refusal)
+      → ReaderSession alone (powered_reader s r) held (powered_by h (powering s r).refusal)
   called : {s : Reader} {held : List ℕ} {h : History} → ReaderSession alone s held h
       → (c : Call alone h s held)
-      → ReaderSession alone (answer c).reader c.left.store (history_after c)
+      → ReaderSession alone (reader_after c) c.left.store (history_after c)
 
 -- how the reader of a session was made: fast, or slow
 unfoldable pub made_fast : {alone : Bool} {s : Reader} {held : List ℕ} {h : History} → ReaderSession alone s held h → Bool
@@ -230,7 +229,7 @@ pub data Idle (alone : Bool) (h : History) (s : Reader) (held : List ℕ) : Read
   passes : {t : Reader} {kept : List ℕ} → Idle alone h s held t kept
       → (c : Call alone h t kept)
       → (Done c → is_executed h c.input ≡ false)
-      → Idle alone h s held (answer c).reader c.left.store
+      → Idle alone h s held (reader_after c) c.left.store
 
 -- Calls and power-ons in a row that execute no write of this parameter, from one reader, store and history to another. `with_power` says whether
 -- there was a power-on among them, of which none is refused.
@@ -239,11 +238,11 @@ pub data Unwritten (alone : Bool) (p : Parameter) (s : Reader) (held : List ℕ)
   power : {t : Reader} {kept : List ℕ} {k : History} {with_power : Bool} → Unwritten alone p s held h t kept k with_power
       → (r : Result Reader Refusal)
       → powering t r ≡ powered_on (state_of t)
-      → Unwritten alone p s held h (result_unwrap_or r t) kept (powered_by k (powering t r).refusal) true
+      → Unwritten alone p s held h (powered_reader t r) kept (powered_by k (powering t r).refusal) true
   other : {t : Reader} {kept : List ℕ} {k : History} {with_power : Bool} → Unwritten alone p s held h t kept k with_power
       → (c : Call alone k t kept)
       → (Done c → is_executed k c.input ≡ true → asks_for c.input ≡ Ok (Write p) → ⊥)
-      → Unwritten alone p s held h (answer c).reader c.left.store (history_after c) with_power
+      → Unwritten alone p s held h (reader_after c) c.left.store (history_after c) with_power
 
 -- what is left of a value after them
 abbrev pub left_of : Bool → Parameter → List ℕ → List ℕ
