@@ -75,10 +75,11 @@ fn hear(receiver: Receiver, piece: &[u8]) -> Heard
 fn heard_with(receiver: Receiver, told: Option<Verdict>, taken: usize) -> Heard
     ensures { saying receiver (Ok result) ≡ said_of receiver told taken }
 {
+    let content = receiver.content;
     Heard {
         receiver,
         told,
-        content: receiver.content,
+        content,
         taken,
     }
 }
