@@ -4,7 +4,7 @@ ghost use Rattle.ground.specs.Laying.{ended, put as put_of};
 ghost use Rattle.tape_spec.specs.Rows.{word, last_row};
 ghost use Rattle.tape_spec.specs.Taping.{ending as ending_of, last_row_of};
 
-use ground::{Placed, put};
+use ground::{Refusal, put};
 use tape_spec::{Ending, Next, Tape};
 use text::put_decimal;
 
@@ -12,12 +12,10 @@ use text::put_decimal;
 const MOST_LAST: usize = 16;
 
 // Writes the last row of a tape that ends here to the front of `out`. Refuses an `out` that is shorter (NoRoom).
-pub fn write_last(tape: Tape, out: &mut [u8]) -> Placed
-    ensures { ended result out.new ≡ put_of (last_row_of tape) out.old 0 }
+pub fn write_last(tape: Tape, out: &mut [u8]) -> Result<usize, Refusal>
+    ensures { ended 0 result out.new ≡ put_of (last_row_of tape) out.old 0 }
 {
-    let next = tape.next;
-    let ending = ending(next);
-    write_ending(ending, tape.records, out)
+    write_ending(ending(tape.next), tape.records, out)
 }
 
 // How a tape ends before this byte.
@@ -33,21 +31,20 @@ pub fn ending(next: Next) -> Ending
 }
 
 // Writes the last row of a tape that ends like this after this many records. Refuses an `out` that is shorter (NoRoom).
-pub fn write_ending(ending: Ending, records: u32, out: &mut [u8]) -> Placed
-    ensures { ended result out.new ≡ put_of (last_row ending records) out.old 0 }
+pub fn write_ending(ending: Ending, records: u32, out: &mut [u8]) -> Result<usize, Refusal>
+    ensures { ended 0 result out.new ≡ put_of (last_row ending records) out.old 0 }
 {
     let mut row = [0u8; MOST_LAST];
-    let said = put_word(ending, &mut row);
-    let counted = put_decimal(records as u64, &mut row, said.end);
-    let ended = put(b"\n", &mut row, counted.end);
-    let length = ended.end;
+    let said = put_word(ending, &mut row)?;
+    let counted = put_decimal(records as u64, &mut row, said)?;
+    let length = put(b"\n", &mut row, counted)?;
     put(&row[..length], out, 0)
 }
 
 // Puts the word for an ending, and the blank after it, to the front of a row.
 #[tactic(auto, unfolding(text::specs::Ascii::ascii, tape_spec::specs::Rows::word))]
-fn put_word(ending: Ending, row: &mut [u8]) -> Placed
-    ensures { ended result row.new ≡ put_of (word ending) row.old 0 }
+fn put_word(ending: Ending, row: &mut [u8]) -> Result<usize, Refusal>
+    ensures { ended 0 result row.new ≡ put_of (word ending) row.old 0 }
 {
     match ending {
         Ending::End => put(b"end ", row, 0),

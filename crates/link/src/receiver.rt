@@ -1,10 +1,10 @@
 // What the receiver of either line hears in a piece of a stream.
-ghost use Rattle.std.specs.Prelude.{◌≡◌, ◌≤◌};
+ghost use Rattle.std.specs.Prelude.{◌≡◌, ◌≤◌, Ok};
 ghost use Rattle.wire_spec.specs.Limits.{most_content};
-ghost use Rattle.link_spec.specs.Receiving.{saying, said_of, heard, not_heard, received};
+ghost use Rattle.link_spec.specs.Receiving.{saying, said_of, heard, received};
 
 use ground::Refusal;
-use link_spec::{Event, Heard, Phase, Receiver, SILENT, Turn, Verdict};
+use link_spec::{Heard, Phase, Receiver, Turn, Verdict};
 use rules::{at_byte, at_stop};
 use station::{is_bad_state, outside};
 
@@ -18,19 +18,19 @@ struct Found {
 // Takes the piece up to the first event in it, or all of it where there is none. Refuses a count over 64 and an address that no
 // station may have (BadState), and then leaves the receiver as it was.
 #[tactic(auto, unfolding(link_spec::specs::Receiving::received))]
-pub fn receive(receiver: Receiver, piece: &[u8]) -> Heard
-    ensures { saying result ≡ received receiver piece.now }
+pub fn receive(receiver: Receiver, piece: &[u8]) -> Result<Heard, Refusal>
+    ensures { saying receiver result ≡ received receiver piece.now }
 {
     if is_bad_state(receiver) {
-        return refused(receiver);
+        return Err(Refusal::BadState);
     }
-    hear(receiver, piece)
+    Ok(hear(receiver, piece))
 }
 
 // The same, of a receiver that no row of the refusal table names.
 fn hear(receiver: Receiver, piece: &[u8]) -> Heard
     requires { receiver.count ≤ most_content }
-    ensures { saying result ≡ heard 0 receiver piece.now }
+    ensures { saying receiver (Ok result) ≡ heard 0 receiver piece.now }
 {
     let station = receiver.station;
     let mut phase = receiver.phase;
@@ -45,7 +45,7 @@ fn hear(receiver: Receiver, piece: &[u8]) -> Heard
                 count,
                 content,
             };
-            return heard_with(receiver, SILENT, taken);
+            return heard_with(receiver, None, taken);
         }
         let turn = at_byte(station, phase, count, piece[taken]);
         taken += 1;
@@ -71,35 +71,17 @@ fn hear(receiver: Receiver, piece: &[u8]) -> Heard
             }
         }
     };
-    heard_with(outside(station, content), found.verdict, found.taken)
+    heard_with(outside(station, content), Some(found.verdict), found.taken)
 }
 
 // The answer with this receiver and verdict; the event's content is the front part of what the receiver kept.
-fn heard_with(receiver: Receiver, verdict: Verdict, taken: usize) -> Heard
-    ensures { saying result ≡ said_of receiver verdict taken }
+fn heard_with(receiver: Receiver, told: Option<Verdict>, taken: usize) -> Heard
+    ensures { saying receiver (Ok result) ≡ said_of receiver told taken }
 {
-    let content = receiver.content;
-    let event = verdict.event;
     Heard {
-        refusal: Refusal::None,
         receiver,
-        event,
-        content,
-        length: verdict.length,
+        told,
+        content: receiver.content,
         taken,
-    }
-}
-
-fn refused(receiver: Receiver) -> Heard
-    ensures { saying result ≡ not_heard receiver }
-{
-    let content = receiver.content;
-    Heard {
-        refusal: Refusal::BadState,
-        receiver,
-        event: Event::None,
-        content,
-        length: 0,
-        taken: 0,
     }
 }

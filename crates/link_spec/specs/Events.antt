@@ -1,23 +1,23 @@
 -- The events by the paper's names, and which of them a stop byte tells. 01, How the receiver moves. Assumes nothing.
-use Rattle.std.specs.Prelude.{ℕ, ◌-◌, Bool, true, false, cond, List, ltb, length}
+use Rattle.std.specs.Prelude.{ℕ, ◌-◌, Bool, true, false, cond, Option, None, Some, List, ltb, length}
 use Rattle.checks.specs.declared.kind.Check as kind
 use Rattle.checks.specs.Check.{check_length, is_right}
 use Rattle.link_spec.specs.declared.event.Event.{Event}
-use Rattle.link_spec.specs.declared.event.Event.TheVariants.{None, Frame, Check, Short, Long, Pair, Addr}
+use Rattle.link_spec.specs.declared.event.Event.TheVariants.{Frame, Check, Short, Long, Pair, Addr}
 use Rattle.link_spec.specs.declared.event.Verdict.{Verdict}
 use Rattle.link_spec.specs.Limits.{least_content}
 
 pub data Name : Type 0 where
   NONE FRAME CHECK SHORT LONG PAIR ADDR : Name
 
-abbrev pub named : Event → Name
+abbrev pub named : Option Event → Name
 named None = NONE
-named Frame = FRAME
-named Check = CHECK
-named Short = SHORT
-named Long = LONG
-named Pair = PAIR
-named Addr = ADDR
+named (Some Frame) = FRAME
+named (Some Check) = CHECK
+named (Some Short) = SHORT
+named (Some Long) = LONG
+named (Some Pair) = PAIR
+named (Some Addr) = ADDR
 
 -- whether anything happened
 abbrev pub happened : Name → Bool
@@ -33,8 +33,18 @@ happened ADDR = true
 abbrev pub telling : Event → ℕ → Verdict
 telling event length = record { event = event; length = length }
 
-abbrev pub silent : Verdict
-silent = telling None 0
+-- nothing happened
+abbrev pub silent : Option Verdict
+silent = None
+
+-- which event, if any, and how many bytes of the content so far it carries
+abbrev pub event_told : Option Verdict → Option Event
+event_told None = None
+event_told (Some v) = Some v.event
+
+abbrev pub length_told : Option Verdict → ℕ
+length_told None = 0
+length_told (Some v) = v.length
 
 -- rule 1: fewer than 4 content bytes
 abbrev pub too_short : List ℕ → Bool

@@ -1,6 +1,6 @@
 -- The worked examples of document 01 that are marked P, and some more of the writers and the receiver, as rows of one table. The claim is
 -- that each holds; `proofs/Laws/Examples` proves it. 01, Bench examples. Assumes nothing.
-use Rattle.std.specs.Prelude.{ℕ, ◌≡◌, true, List, [], ◌∷◌, ◌++◌, replicate, drop}
+use Rattle.std.specs.Prelude.{ℕ, ◌≡◌, true, Some, List, [], ◌∷◌, ◌++◌, replicate, drop}
 use Rattle.checks.specs.declared.kind.Check.{Check}
 use Rattle.checks.specs.declared.kind.Check.TheVariants.{Fcs, Sum}
 use Rattle.checks.specs.Check.{with_check, is_right}
@@ -39,7 +39,7 @@ Holds (point_writes identifier command «data» room refusal count) =
 Holds (addressed_writes address identifier command «data» room refusal count) =
     (addressed_written address identifier command «data» (replicate room 0)).tally ≡ record { refusal = refusal; count = count }
 Holds (right_check check content) = is_right check content ≡ true
-Holds (stops check content event) = named (verdict check content).event ≡ event
+Holds (stops check content event) = named (Some (verdict check content).event) ≡ event
 Holds (hears station stream place event content) = tells 0 (received (fresh_receiver station) stream) ≡ told_at place event content ∷ []
 Holds (hears_next station stream place event content) =
     let first = received (fresh_receiver station) stream in

@@ -1,10 +1,10 @@
 -- A hearing: a whole stream handed over in calls, cut at will, each continuing where the last stopped, and what the calls tell.
 -- 01, How the receiver moves, the last paragraph. Assumes nothing.
-use Rattle.std.specs.Prelude.{ℕ, ◌+◌, ◌≤◌, ◌≡◌, cond, List, [], ◌∷◌, ◌++◌, length, take, drop}
+use Rattle.std.specs.Prelude.{ℕ, ◌+◌, ◌≤◌, ◌≡◌, cond, Result, List, [], ◌∷◌, ◌++◌, length, take, drop}
+use Rattle.ground.specs.declared.refusal.Refusal.{Refusal}
 use Rattle.link_spec.specs.declared.station.Station.{Station}
 use Rattle.link_spec.specs.declared.station.Station.TheVariants.{Point, Addressed}
 use Rattle.link_spec.specs.declared.receiver.Receiver.{Receiver}
-use Rattle.link_spec.specs.declared.receiver.Fresh.{Fresh}
 use Rattle.link_spec.specs.declared.receiver.Heard.{Heard}
 use Rattle.link_spec.specs.Events.{Name, happened}
 use Rattle.link_spec.specs.Receiving.{fresh_receiver, made, fresh_made, Said, saying, received}
@@ -29,15 +29,15 @@ tells before said = note (before + said.taken) said.event (take said.length said
 -- a receiver for this station, as the call that makes it answers unless it refuses
 pub data IsFresh : Station → Receiver → Type 0 where
   point : {r : Receiver} → r ≡ fresh_receiver Point → IsFresh Point r
-  addressed : (r : Fresh) {own : ℕ} → made r ≡ fresh_made own → (made r).refusal ≡ 0 → IsFresh (Addressed own) r.receiver
+  addressed : {own : ℕ} (r : Result Receiver Refusal) → made own r ≡ fresh_made own → (made own r).refusal ≡ 0 → IsFresh (Addressed own) (made own r).receiver
 
 -- A hearing of what is left of a stream after this many bytes, and what its calls tell: either nothing is left, or there is one call
 -- more, on any piece, empty too, that continues there, and the hearing goes on with the receiver that the call answered, after the bytes
 -- that it took.
 pub data Hearing (stream : List ℕ) : Receiver → ℕ → List Told → Type 0 where
   over : {s : Receiver} {before : ℕ} → length stream ≤ before → Hearing stream s before []
-  call : {s : Receiver} {before : ℕ} {more : List Told} (piece rest : List ℕ) (r : Heard)
+  call : {s : Receiver} {before : ℕ} {more : List Told} (piece rest : List ℕ) (r : Result Heard Refusal)
       → drop before stream ≡ piece ++ rest
-      → saying r ≡ received s piece
-      → Hearing stream r.receiver (before + r.taken) more
-      → Hearing stream s before (tells before (saying r) ++ more)
+      → saying s r ≡ received s piece
+      → Hearing stream (saying s r).receiver (before + (saying s r).taken) more
+      → Hearing stream s before (tells before (saying s r) ++ more)

@@ -1,6 +1,6 @@
 -- What the rules of a station answer, in the paper's words: what a byte is to a receiver, and what a stop byte tells.
 -- 01, How the receiver moves. Assumes nothing.
-use Rattle.std.specs.Prelude.{ℕ, List}
+use Rattle.std.specs.Prelude.{ℕ, List, Some}
 use Rattle.link_spec.specs.declared.event.Verdict.{Verdict}
 use Rattle.link_spec.specs.declared.station.Station.{Station}
 use Rattle.link_spec.specs.declared.receiver.Phase.{Phase}
@@ -23,7 +23,7 @@ move_of Begin = BEGINS
 move_of Wait = WAITS
 move_of (Keep b) = CONTENT b
 move_of Stop = ENDS
-move_of (Tell event) = EVENT (named event)
+move_of (Tell event) = EVENT (named (Some event))
 
 -- what a byte is to this station's receiver in this phase, after this many content bytes: `turn`, which the table of Rules holds against the paper
 abbrev pub move_at : Station → Phase → ℕ → ℕ → Move
@@ -35,7 +35,7 @@ pub record Ruling : Type 0 where
   pub length : ℕ
 
 abbrev pub ruling_of : Verdict → Ruling
-ruling_of v = record { event = named v.event; length = v.length }
+ruling_of v = record { event = named (Some v.event); length = v.length }
 
 -- what a stop byte after this content tells: `verdict`, which the table of Rules holds against the paper
 abbrev pub ruling_at : Station → List ℕ → Ruling

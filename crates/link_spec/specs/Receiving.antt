@@ -1,12 +1,12 @@
 -- What the receiver's calls answer, for every input.
 -- 01, How the receiver moves, and Refusal numbers, rows 3 and 4. Assumes nothing.
-use Rattle.std.specs.Prelude.{ℕ, ◌+◌, ◌<◌, ◌≡◌, Bool, true, false, cond, ◌||◌, not, List, [], ◌∷◌, ltb, length, take, set, replicate}
+use Rattle.std.specs.Prelude.{ℕ, ◌+◌, ◌<◌, ◌≡◌, Bool, true, false, cond, ◌||◌, not, Option, Some, Result, Ok, Err, List, [], ◌∷◌, ltb, length, take, set, replicate}
+use Rattle.ground.specs.declared.refusal.Refusal.{Refusal}
 use Rattle.ground.specs.declared.refusal.Refusal.TheVariants.{BadAddress, BadState}
 use Rattle.ground.specs.Refusals.{number}
 use Rattle.checks.specs.declared.kind.Check.{Check}
 use Rattle.wire_spec.specs.Limits.{most_content}
 use Rattle.link_spec.specs.declared.event.Verdict.{Verdict}
-use Rattle.link_spec.specs.declared.event.Event.TheVariants.{None}
 use Rattle.link_spec.specs.declared.station.Station.{Station}
 use Rattle.link_spec.specs.declared.station.Station.TheVariants.{Addressed}
 use Rattle.link_spec.specs.declared.receiver.Phase.{Phase}
@@ -14,11 +14,10 @@ use Rattle.link_spec.specs.declared.receiver.Phase.TheVariants.{Outside, Inside,
 use Rattle.link_spec.specs.declared.receiver.Turn.{Turn}
 use Rattle.link_spec.specs.declared.receiver.Turn.TheVariants.{Rest, Begin, Wait, Keep, Stop, Tell}
 use Rattle.link_spec.specs.declared.receiver.Receiver.{Receiver}
-use Rattle.link_spec.specs.declared.receiver.Fresh.{Fresh}
 use Rattle.link_spec.specs.declared.receiver.Heard.{Heard}
 use Rattle.link_spec.specs.Address.{is_station, NoStation}
 use Rattle.link_spec.specs.Station.{check_on, has_address}
-use Rattle.link_spec.specs.Events.{Name, named, telling, silent, verdict}
+use Rattle.link_spec.specs.Events.{Name, NONE, named, telling, silent, event_told, length_told, verdict}
 use Rattle.link_spec.specs.Turning.{turn}
 
 abbrev pub receiver_of : Station → Phase → ℕ → List ℕ → Receiver
@@ -33,13 +32,15 @@ outside station content = receiver_of station Outside 0 content
 abbrev pub fresh_receiver : Station → Receiver
 fresh_receiver station = outside station (replicate most_content 0)
 
--- a call's result in the paper's numbers
+-- a call's result in the paper's numbers; with a refusal goes a receiver that refuses every call
 pub record Made : Type 0 where
   pub refusal : ℕ
   pub receiver : Receiver
 
-abbrev pub made : Fresh → Made
-made r = record { refusal = number r.refusal; receiver = r.receiver }
+-- what a call's result says that was to make a receiver for the station with this address
+abbrev pub made : ℕ → Result Receiver Refusal → Made
+made own (Ok receiver) = record { refusal = 0; receiver = receiver }
+made own (Err why) = record { refusal = number why; receiver = fresh_receiver (Addressed own) }
 
 -- row 3: a new station given 7F or FD..FF is BadAddress
 unfoldable pub fresh_made : ℕ → Made
@@ -73,15 +74,15 @@ has_event Stop = true
 has_event (Tell why) = true
 
 -- what a turn tells after this content so far: the event, and how many bytes of the content it carries
-unfoldable pub outcome : Check → List ℕ → Turn → Verdict
+unfoldable pub outcome : Check → List ℕ → Turn → Option Verdict
 outcome check content Rest = silent
 outcome check content Begin = silent
 outcome check content Wait = silent
 outcome check content (Keep b) = silent
-outcome check content Stop = verdict check content
-outcome check content (Tell why) = telling why 0
+outcome check content Stop = Some (verdict check content)
+outcome check content (Tell why) = Some (telling why 0)
 
-abbrev pub outcome_at : Receiver → Turn → Verdict
+abbrev pub outcome_at : Receiver → Turn → Option Verdict
 outcome_at s t = outcome (check_on s.station) (so_far s) t
 
 -- ---- one call
@@ -95,21 +96,27 @@ pub record Said : Type 0 where
   pub length : ℕ
   pub taken : ℕ
 
-abbrev pub saying : Heard → Said
-saying r =
+-- a refusal: event none, count 0, state as it came
+abbrev pub said_not : Refusal → Receiver → Said
+said_not why s = record { refusal = number why; receiver = s; event = NONE; content = s.content; length = 0; taken = 0 }
+
+-- what the result says of a call on this receiver
+abbrev pub saying : Receiver → Result Heard Refusal → Said
+saying s (Ok r) =
     record {
-      refusal = number r.refusal;
+      refusal = 0;
       receiver = r.receiver;
-      event = named r.event;
+      event = named (event_told r.told);
       content = r.content;
-      length = r.length;
+      length = length_told r.told;
       taken = r.taken;
     }
+saying s (Err why) = said_not why s
 
 -- an answer that is no refusal: the event's content is the front part of what the receiver kept
-abbrev pub said_of : Receiver → Verdict → ℕ → Said
+abbrev pub said_of : Receiver → Option Verdict → ℕ → Said
 said_of s v taken =
-    record { refusal = 0; receiver = s; event = named v.event; content = s.content; length = v.length; taken = taken }
+    record { refusal = 0; receiver = s; event = named (event_told v); content = s.content; length = length_told v; taken = taken }
 
 -- the bytes one by one up to the first event, with a number of bytes taken before; without an event, all of them
 unfoldable pub heard : ℕ → Receiver → List ℕ → Said
@@ -119,9 +126,8 @@ heard taken s (b ∷ bs) =
     let on = heard (taken + 1) (moved s t) bs in
     cond (has_event t) (said_of (moved s t) (outcome_at s t) (taken + 1)) on
 
--- event none, count 0, state as it came
 abbrev pub not_heard : Receiver → Said
-not_heard s = record { refusal = number BadState; receiver = s; event = named None; content = s.content; length = 0; taken = 0 }
+not_heard s = said_not BadState s
 
 -- row 4: a count over 64, or on the addressed line an address no station may have, is BadState
 abbrev pub bad_receiver : Receiver → Bool

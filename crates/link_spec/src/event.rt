@@ -1,7 +1,6 @@
 // What a receiver tells of a stream.
-#[derive(Clone, Copy)]
+#[derive(Clone, Copy, Debug, PartialEq, Eq)]
 pub enum Event {
-    None,
     Frame,
     Check,
     Short,
@@ -11,14 +10,8 @@ pub enum Event {
 }
 
 // An event, and how many bytes of the content so far it carries: all before the check for a frame, its check right or wrong.
-#[derive(Clone, Copy)]
+#[derive(Clone, Copy, Debug, PartialEq, Eq)]
 pub struct Verdict {
     pub event: Event,
     pub length: usize,
 }
-
-// Nothing happened.
-pub const SILENT: Verdict = Verdict {
-    event: Event::None,
-    length: 0,
-};

@@ -6,8 +6,8 @@ mod event;
 mod receiver;
 mod station;
 
-pub use event::{Event, SILENT, Verdict};
-pub use receiver::{Fresh, Heard, Phase, Receiver, Turn};
+pub use event::{Event, Verdict};
+pub use receiver::{Heard, Phase, Receiver, Turn};
 pub use station::{BROADCAST, LAST_ADDRESS, MASTER, Station};
 use wire_spec::MOST_CONTENT;
 

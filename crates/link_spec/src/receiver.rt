@@ -1,7 +1,6 @@
 // The receiver's state, and what its calls answer.
-use crate::event::Event;
+use crate::event::{Event, Verdict};
 use crate::station::Station;
-use ground::Refusal;
 use wire_spec::MOST_CONTENT;
 
 // Where a receiver is: outside a frame, inside one, or inside one after an FF that waits for its partner.
@@ -33,21 +32,12 @@ pub struct Receiver {
     pub content: [u8; MOST_CONTENT],
 }
 
-// A receiver for a station. With a refusal comes one that refuses every call.
-#[derive(Clone, Copy)]
-pub struct Fresh {
-    pub refusal: Refusal,
-    pub receiver: Receiver,
-}
-
-// What one call heard: the receiver for the next call, the event with the first `length` bytes of `content`, and how many bytes of the
-// piece were taken.
+// What one call heard: the receiver for the next call; what it tells, which carries the first bytes of `content`, if anything happened; and
+// how many bytes of the piece were taken.
 #[derive(Clone, Copy)]
 pub struct Heard {
-    pub refusal: Refusal,
     pub receiver: Receiver,
-    pub event: Event,
+    pub told: Option<Verdict>,
     pub content: [u8; MOST_CONTENT],
-    pub length: usize,
     pub taken: usize,
 }

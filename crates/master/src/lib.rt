@@ -4,4 +4,4 @@
 mod reading;
 
 pub use reading::{data_of, read_reply};
-pub use request::{Meaning, Reading};
+pub use request::Meaning;

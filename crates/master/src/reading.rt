@@ -1,11 +1,11 @@
 // The master's reading of a reply.
 ghost use Rattle.std.specs.Prelude.{◌≡◌};
 ghost use Rattle.request_spec.specs.Replies.{data_of};
-ghost use Rattle.request_spec.specs.Reading.{understood, reading_of, is_write, is_nack, is_due, data_read, sign_read, read_as, reply_read};
+ghost use Rattle.request_spec.specs.Reading.{understood, is_due, data_read, sign_read, read_as, reply_read};
 
 use ground::Refusal;
 use request::{
-    ACK, Acceptance, Command, HEADER_LENGTH, Meaning, Reading, SIGN, accept, is_code, length_of,
+    ACK, Command, HEADER_LENGTH, Meaning, SIGN, accept, is_code, length_of,
 };
 
 const MOST_NACK: u8 = 6;
@@ -14,38 +14,29 @@ const MOST_NACK: u8 = 6;
 // with another identifier or none (WrongId), with another command, none or an echoed write (WrongCommand), with data of another length
 // (WrongLength), and a sign that is no answer to this request (WrongReason), in this order.
 #[tactic(auto, unfolding(request_spec::specs::Reading::reply_read))]
-pub fn read_reply(identifier: u8, code: u8, data: &[u8], reply: &[u8]) -> Reading
+pub fn read_reply(identifier: u8, code: u8, data: &[u8], reply: &[u8]) -> Result<Meaning, Refusal>
     ensures { understood (data_of reply.now) result ≡ reply_read identifier code «data».now reply.now }
 {
-    let acceptance = accept(code, data);
-    match acceptance {
-        Acceptance::Accepted(command) => read_as(identifier, code, command, reply),
-        Acceptance::Faulty(_) => refused(Refusal::BadRequest),
-    }
+    let command = accept(code, data)?;
+    read_as(identifier, code, command, reply)
 }
 
 // The reply to this command.
 #[tactic(auto, unfolding(request_spec::specs::Reading::read_as))]
-fn read_as(identifier: u8, code: u8, command: Command, reply: &[u8]) -> Reading
+fn read_as(identifier: u8, code: u8, command: Command, reply: &[u8]) -> Result<Meaning, Refusal>
     ensures { understood (data_of reply.now) result ≡ read_as identifier code reply.now command }
 {
-    if reply.len() == 0 {
-        return refused(Refusal::WrongId);
-    }
-    if reply[0] != identifier {
-        return refused(Refusal::WrongId);
+    if reply.is_empty() || reply[0] != identifier {
+        return Err(Refusal::WrongId);
     }
     if reply.len() == 1 {
-        return refused(Refusal::WrongCommand);
+        return Err(Refusal::WrongCommand);
     }
     if reply[1] == SIGN {
         return read_sign(command, &reply[2..]);
     }
-    if reply[1] != code {
-        return refused(Refusal::WrongCommand);
-    }
-    if code == 0x01 {
-        return refused(Refusal::WrongCommand);
+    if reply[1] != code || code == 0x01 {
+        return Err(Refusal::WrongCommand);
     }
     read_data(command, &reply[2..])
 }
@@ -62,57 +53,35 @@ pub fn data_of(content: &[u8]) -> &[u8]
 
 // An ACK or a NACK, with this data.
 #[tactic(auto, unfolding(request_spec::specs::Reading::sign_read, request_spec::specs::Reading::reason_read))]
-fn read_sign(command: Command, data: &[u8]) -> Reading
+fn read_sign(command: Command, data: &[u8]) -> Result<Meaning, Refusal>
     ensures { understood «data».now result ≡ sign_read command «data».now }
 {
     if data.len() != 1 {
-        return refused(Refusal::WrongLength);
+        return Err(Refusal::WrongLength);
     }
     let reason = data[0];
     if reason == ACK {
-        if is_write(command) {
-            return says(Meaning::Ack);
+        if matches!(command, Command::Write(_)) {
+            return Ok(Meaning::Ack);
         }
-        return refused(Refusal::WrongReason);
+        return Err(Refusal::WrongReason);
     }
-    if is_nack(reason) {
-        says(Meaning::Nack(reason))
+    if (1..=MOST_NACK).contains(&reason) {
+        Ok(Meaning::Nack(reason))
     } else {
-        refused(Refusal::WrongReason)
+        Err(Refusal::WrongReason)
     }
-}
-
-// Whether ACK answers the command.
-fn is_write(command: Command) -> bool
-    ensures { result ≡ is_write command }
-{
-    match command {
-        Command::Header => false,
-        Command::Write(_) => true,
-        Command::Read(_) => false,
-        Command::Card(_) => false,
-    }
-}
-
-// Whether a NACK may have this number.
-fn is_nack(reason: u8) -> bool
-    ensures { result ≡ is_nack reason }
-{
-    if reason < 1 {
-        return false;
-    }
-    reason <= MOST_NACK
 }
 
 // The request's own command, with this data.
 #[tactic(auto, unfolding(request_spec::specs::Reading::data_read))]
-fn read_data(command: Command, data: &[u8]) -> Reading
+fn read_data(command: Command, data: &[u8]) -> Result<Meaning, Refusal>
     ensures { understood «data».now result ≡ data_read command «data».now }
 {
     if is_due(command, data.len()) {
-        says(Meaning::Data)
+        Ok(Meaning::Data)
     } else {
-        refused(Refusal::WrongLength)
+        Err(Refusal::WrongLength)
     }
 }
 
@@ -125,24 +94,5 @@ fn is_due(command: Command, length: usize) -> bool
         Command::Write(_) => false,
         Command::Read(parameter) => length == length_of(parameter),
         Command::Card(card) => is_code(card, length),
-    }
-}
-
-// A reply that says this.
-fn says(meaning: Meaning) -> Reading
-    ensures { result ≡ reading_of Refusal.None meaning }
-{
-    Reading {
-        refusal: Refusal::None,
-        meaning,
-    }
-}
-
-fn refused(refusal: Refusal) -> Reading
-    ensures { result ≡ reading_of refusal Meaning.None }
-{
-    Reading {
-        refusal,
-        meaning: Meaning::None,
     }
 }

@@ -9,11 +9,9 @@ use tape_spec::{Line, Receivers};
 pub(crate) fn fresh_receivers() -> Receivers
     ensures { result ≡ fresh_receivers }
 {
-    let made = fresh_addressed(MASTER);
-    let addressed = made.receiver;
     Receivers {
         point: fresh_point(),
-        addressed,
+        addressed: fresh_addressed(MASTER).unwrap(),
     }
 }
 
@@ -32,20 +30,14 @@ pub fn with_receiver(receivers: Receivers, line: Line, receiver: Receiver) -> Re
     ensures { result ≡ with_receiver line receiver receivers }
 {
     match line {
-        Line::Point => {
-            let addressed = receivers.addressed;
-            Receivers {
-                point: receiver,
-                addressed,
-            }
-        }
-        Line::Addressed => {
-            let point = receivers.point;
-            Receivers {
-                point,
-                addressed: receiver,
-            }
-        }
+        Line::Point => Receivers {
+            point: receiver,
+            ..receivers
+        },
+        Line::Addressed => Receivers {
+            addressed: receiver,
+            ..receivers
+        },
     }
 }
 
@@ -53,10 +45,5 @@ pub fn with_receiver(receivers: Receivers, line: Line, receiver: Receiver) -> Re
 pub(crate) fn has_bad(receivers: Receivers) -> bool
     ensures { result ≡ bad_receivers receivers }
 {
-    let point = receivers.point;
-    if is_bad_state(point) {
-        return true;
-    }
-    let addressed = receivers.addressed;
-    is_bad_state(addressed)
+    is_bad_state(receivers.point) || is_bad_state(receivers.addressed)
 }

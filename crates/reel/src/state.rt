@@ -20,28 +20,12 @@ pub fn fresh_tape() -> Tape
 pub fn is_bad_tape(tape: Tape) -> bool
     ensures { result ≡ bad_tape tape }
 {
-    let receivers = tape.receivers;
-    if has_bad(receivers) {
-        return true;
-    }
-    let next = tape.next;
-    match next {
-        Next::Kind => false,
-        Next::Body(_line) => tape.records == MOST_RECORDS,
-        Next::Bad => false,
-        Next::Full => false,
-    }
+    has_bad(tape.receivers) || matches!(tape.next, Next::Body(_)) && tape.records == MOST_RECORDS
 }
 
 // Whether nothing further is read: an unknown kind came, or a byte after the last permitted record.
 pub fn is_over(tape: Tape) -> bool
     ensures { result ≡ is_over tape.next }
 {
-    let next = tape.next;
-    match next {
-        Next::Kind => false,
-        Next::Body(_line) => false,
-        Next::Bad => true,
-        Next::Full => true,
-    }
+    matches!(tape.next, Next::Bad | Next::Full)
 }

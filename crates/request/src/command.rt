@@ -3,10 +3,10 @@ ghost use Rattle.std.specs.Prelude.{◌≡◌};
 ghost use Rattle.request_spec.specs.Acceptance.{bare_accepted, write_accepted, read_accepted, acceptance, nack_of, judgement};
 
 use crate::parameter::{is_value_of, with_code};
-use request_spec::{Acceptance, Card, Coded, Command, Fault};
+use request_spec::{Card, Command, Fault};
 
 // What this code asks for with this data.
-pub fn accept(code: u8, data: &[u8]) -> Acceptance
+pub fn accept(code: u8, data: &[u8]) -> Result<Command, Fault>
     ensures { judgement result ≡ judgement (acceptance code «data».now) }
 {
     match code {
@@ -16,7 +16,7 @@ pub fn accept(code: u8, data: &[u8]) -> Acceptance
         0x10 => accept_bare(Command::Card(Card::Marin), data),
         0x14 => accept_bare(Command::Card(Card::Hid), data),
         0x18 => accept_bare(Command::Card(Card::Motorola), data),
-        _ => Acceptance::Faulty(Fault::UnknownCode),
+        _ => Err(Fault::UnknownCode),
     }
 }
 
@@ -31,44 +31,38 @@ pub fn nack_of(fault: Fault) -> u8
 }
 
 // A command without data.
-fn accept_bare(command: Command, data: &[u8]) -> Acceptance
+fn accept_bare(command: Command, data: &[u8]) -> Result<Command, Fault>
     ensures { result ≡ bare_accepted command «data».now }
 {
-    if data.len() == 0 {
-        Acceptance::Accepted(command)
+    if data.is_empty() {
+        Ok(command)
     } else {
-        Acceptance::Faulty(Fault::BadData)
+        Err(Fault::BadData)
     }
 }
 
 // A parameter's code, then its value.
-fn accept_write(data: &[u8]) -> Acceptance
+fn accept_write(data: &[u8]) -> Result<Command, Fault>
     ensures { result ≡ write_accepted «data».now }
 {
-    if data.len() == 0 {
-        return Acceptance::Faulty(Fault::BadData);
-    }
-    let coded = with_code(data[0]);
-    let Coded::Known(parameter) = coded else {
-        return Acceptance::Faulty(Fault::BadData);
+    let [code, value @ ..] = data else {
+        return Err(Fault::BadData);
     };
-    if is_value_of(parameter, &data[1..]) {
-        Acceptance::Accepted(Command::Write(parameter))
+    let parameter = with_code(*code).ok_or(Fault::BadData)?;
+    if is_value_of(parameter, value) {
+        Ok(Command::Write(parameter))
     } else {
-        Acceptance::Faulty(Fault::BadData)
+        Err(Fault::BadData)
     }
 }
 
 // A parameter's code alone.
-fn accept_read(data: &[u8]) -> Acceptance
+fn accept_read(data: &[u8]) -> Result<Command, Fault>
     ensures { result ≡ read_accepted «data».now }
 {
-    if data.len() != 1 {
-        return Acceptance::Faulty(Fault::BadData);
-    }
-    let coded = with_code(data[0]);
-    match coded {
-        Coded::Known(parameter) => Acceptance::Accepted(Command::Read(parameter)),
-        Coded::Unknown => Acceptance::Faulty(Fault::BadData),
-    }
+    let [code] = data else {
+        return Err(Fault::BadData);
+    };
+    let parameter = with_code(*code).ok_or(Fault::BadData)?;
+    Ok(Command::Read(parameter))
 }

@@ -3,7 +3,6 @@ ghost use Rattle.std.specs.Prelude.{◌≡◌, ◌+◌, ◌≤◌, length};
 ghost use Rattle.ground.specs.Laying.{laid};
 ghost use Rattle.request_spec.specs.Header.{low_first, header as header_of};
 
-use ground::put;
 use request_spec::{
     FLAGS_AT, HEADER_LENGTH, KIND_AT, NAME_LENGTH, PROTOCOL_AT, SERIAL_AT, VERSION_AT,
 };
@@ -20,7 +19,7 @@ pub fn header(
     ensures { result ≡ header_of name kind version protocol serial flags }
 {
     let mut bytes = [0u8; HEADER_LENGTH];
-    put(&name, &mut bytes, 0);
+    bytes[..NAME_LENGTH].copy_from_slice(&name);
     lay_number(&mut bytes, KIND_AT, kind);
     lay_number(&mut bytes, VERSION_AT, version);
     lay_number(&mut bytes, PROTOCOL_AT, protocol);
@@ -34,8 +33,5 @@ fn lay_number(bytes: &mut [u8], at: usize, number: u32)
     requires { at + 4 ≤ length bytes.old }
     ensures { bytes.new ≡ laid bytes.old at (low_first number) }
 {
-    bytes[at] = (number % 256) as u8;
-    bytes[at + 1] = (number / 256 % 256) as u8;
-    bytes[at + 2] = (number / 65536 % 256) as u8;
-    bytes[at + 3] = (number / 16777216 % 256) as u8;
+    bytes[at..at + 4].copy_from_slice(&number.to_le_bytes());
 }

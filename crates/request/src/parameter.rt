@@ -2,21 +2,21 @@
 ghost use Rattle.std.specs.Prelude.{◌≡◌};
 ghost use Rattle.request_spec.specs.Parameters.{parameter_with, length_of, is_speed, is_value_of};
 
-use request_spec::{CELL_LENGTH, Coded, Parameter, SETTINGS_LENGTH};
+use request_spec::{CELL_LENGTH, Parameter, SETTINGS_LENGTH};
 
 const LEAST_SPEED: u8 = 3;
 
 const MOST_SPEED: u8 = 10;
 
 // The parameter that a code names, if there is one.
-pub(crate) fn with_code(code: u8) -> Coded
+pub(crate) fn with_code(code: u8) -> Option<Parameter>
     ensures { result ≡ parameter_with code }
 {
     match code {
-        0x02 => Coded::Known(Parameter::Speed),
-        0x05 => Coded::Known(Parameter::Settings),
-        0x80 => Coded::Known(Parameter::Cell),
-        _ => Coded::Unknown,
+        0x02 => Some(Parameter::Speed),
+        0x05 => Some(Parameter::Settings),
+        0x80 => Some(Parameter::Cell),
+        _ => None,
     }
 }
 
@@ -35,10 +35,7 @@ pub fn length_of(parameter: Parameter) -> usize
 pub fn is_speed(value: u8) -> bool
     ensures { result ≡ is_speed value }
 {
-    if value < LEAST_SPEED {
-        return false;
-    }
-    value <= MOST_SPEED
+    (LEAST_SPEED..=MOST_SPEED).contains(&value)
 }
 
 // Whether the parameter may be given this value.
@@ -50,7 +47,6 @@ pub(crate) fn is_value_of(parameter: Parameter, value: &[u8]) -> bool
     }
     match parameter {
         Parameter::Speed => is_speed(value[0]),
-        Parameter::Settings => true,
-        Parameter::Cell => true,
+        Parameter::Settings | Parameter::Cell => true,
     }
 }

@@ -5,17 +5,18 @@ ghost use Rattle.request_spec.specs.Requesting.{request_written};
 
 use crate::command::accept;
 use frame::write_point;
-use ground::{Counted, Refusal};
-use request_spec::Acceptance;
+use ground::Refusal;
 
 // Writes the image of a request's frame to the front of `out`, and answers its length. Refuses a code that does not exist and data that
 // it does not accept (BadRequest), and `out` shorter than the image (NoRoom), in this order; a refusal leaves `out` as it was.
-pub fn write_request(identifier: u8, code: u8, data: &[u8], out: &mut [u8]) -> Counted
+pub fn write_request(
+    identifier: u8,
+    code: u8,
+    data: &[u8],
+    out: &mut [u8],
+) -> Result<usize, Refusal>
     ensures { after result out.new ≡ request_written identifier code «data».now out.old }
 {
-    let acceptance = accept(code, data);
-    match acceptance {
-        Acceptance::Accepted(_) => write_point(identifier, code, data, out),
-        Acceptance::Faulty(_) => Counted::refused(Refusal::BadRequest),
-    }
+    accept(code, data)?;
+    write_point(identifier, code, data, out)
 }

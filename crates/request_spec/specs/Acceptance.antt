@@ -1,15 +1,11 @@
 -- Which codes exist, and which data each accepts: one definition for the writer of requests, the reader and the master. What a slow reader does not
 -- do of it is said in reader_spec, Speeds.
 -- 01, The point reader, steps 4 and 5 and the table; 001, 'Коды команд'. Assumes nothing.
-use Rattle.std.specs.Prelude.{ℕ, ◌≤◌, ◌≡◌, Bool, true, false, cond, ◌||◌, List, [], ◌∷◌, eqb, length, drop}
+use Rattle.std.specs.Prelude.{ℕ, ◌≤◌, ◌≡◌, Bool, true, false, cond, ◌||◌, List, [], ◌∷◌, eqb, length, drop, Option, None, Some, Result, Ok, Err}
 use Rattle.request_spec.specs.declared.parameter.Parameter.{Parameter}
-use Rattle.request_spec.specs.declared.parameter.Coded.{Coded}
-use Rattle.request_spec.specs.declared.parameter.Coded.TheVariants as coded
 use Rattle.request_spec.specs.declared.command.Card.TheVariants.{Marin, Hid, Motorola}
 use Rattle.request_spec.specs.declared.command.Command.{Command}
 use Rattle.request_spec.specs.declared.command.Command.TheVariants.{Header, Write, Read, Card}
-use Rattle.request_spec.specs.declared.command.Acceptance.{Acceptance}
-use Rattle.request_spec.specs.declared.command.Acceptance.TheVariants.{Accepted, Faulty}
 use Rattle.request_spec.specs.declared.command.Fault.{Fault}
 use Rattle.request_spec.specs.declared.command.Fault.TheVariants.{UnknownCode, BadData}
 use Rattle.request_spec.specs.Parameters.{parameter_code, parameter_with, is_value_of, IsValue}
@@ -24,42 +20,42 @@ command_code (Card Hid) = 0x14
 command_code (Card Motorola) = 0x18
 
 -- data accepted: none
-abbrev pub bare_accepted : Command → List ℕ → Acceptance
-bare_accepted command [] = Accepted command
-bare_accepted command (b ∷ more) = Faulty BadData
+abbrev pub bare_accepted : Command → List ℕ → Result Command Fault
+bare_accepted command [] = Ok command
+bare_accepted command (b ∷ more) = Err BadData
 
 -- a parameter code, then a value of exactly its length; for 02 a value 3..10
-abbrev pub write_accepted_to : Coded → List ℕ → Acceptance
-write_accepted_to coded.Unknown value = Faulty BadData
-write_accepted_to (coded.Known p) value = cond (is_value_of p value) (Accepted (Write p)) (Faulty BadData)
+abbrev pub write_accepted_to : Option Parameter → List ℕ → Result Command Fault
+write_accepted_to None value = Err BadData
+write_accepted_to (Some p) value = cond (is_value_of p value) (Ok (Write p)) (Err BadData)
 
-abbrev pub write_accepted : List ℕ → Acceptance
-write_accepted [] = Faulty BadData
+abbrev pub write_accepted : List ℕ → Result Command Fault
+write_accepted [] = Err BadData
 write_accepted (code ∷ value) = write_accepted_to (parameter_with code) value
 
 -- one existing parameter code
-abbrev pub read_accepted_from : Coded → Acceptance
-read_accepted_from coded.Unknown = Faulty BadData
-read_accepted_from (coded.Known p) = Accepted (Read p)
+abbrev pub read_accepted_from : Option Parameter → Result Command Fault
+read_accepted_from None = Err BadData
+read_accepted_from (Some p) = Ok (Read p)
 
-abbrev pub read_accepted : List ℕ → Acceptance
-read_accepted [] = Faulty BadData
+abbrev pub read_accepted : List ℕ → Result Command Fault
+read_accepted [] = Err BadData
 read_accepted (code ∷ []) = read_accepted_from (parameter_with code)
-read_accepted (code ∷ b ∷ more) = Faulty BadData
+read_accepted (code ∷ b ∷ more) = Err BadData
 
 -- the codes that exist
 abbrev pub is_known : ℕ → Bool
 is_known code = eqb code 0x00 || (eqb code 0x01 || (eqb code 0x02 || (eqb code 0x10 || (eqb code 0x14 || eqb code 0x18))))
 
 -- the table, code by code
-unfoldable pub acceptance : ℕ → List ℕ → Acceptance
+unfoldable pub acceptance : ℕ → List ℕ → Result Command Fault
 acceptance code «data» =
     cond (eqb code 0x00) (bare_accepted Header «data»)
     (cond (eqb code 0x01) (write_accepted «data»)
     (cond (eqb code 0x02) (read_accepted «data»)
     (cond (eqb code 0x10) (bare_accepted (Card Marin) «data»)
     (cond (eqb code 0x14) (bare_accepted (Card Hid) «data»)
-    (cond (eqb code 0x18) (bare_accepted (Card Motorola) «data») (Faulty UnknownCode))))))
+    (cond (eqb code 0x18) (bare_accepted (Card Motorola) «data») (Err UnknownCode))))))
 
 -- the NACK that a reader answers instead: unknown code: NACK 2 (step 4); data not acceptable: NACK 3 (step 5)
 abbrev pub nack_of : Fault → ℕ
@@ -72,16 +68,16 @@ pub data Judgement : Type 0 where
   by_codes : (code parameter : ℕ) → Judgement
   by_number : (nack : ℕ) → Judgement
 
-abbrev pub judgement : Acceptance → Judgement
-judgement (Accepted Header) = by_code (command_code Header)
-judgement (Accepted (Write p)) = by_codes (command_code (Write p)) (parameter_code p)
-judgement (Accepted (Read p)) = by_codes (command_code (Read p)) (parameter_code p)
-judgement (Accepted (Card card)) = by_code (command_code (Card card))
-judgement (Faulty fault) = by_number (nack_of fault)
+abbrev pub judgement : Result Command Fault → Judgement
+judgement (Ok Header) = by_code (command_code Header)
+judgement (Ok (Write p)) = by_codes (command_code (Write p)) (parameter_code p)
+judgement (Ok (Read p)) = by_codes (command_code (Read p)) (parameter_code p)
+judgement (Ok (Card card)) = by_code (command_code (Card card))
+judgement (Err fault) = by_number (nack_of fault)
 
-abbrev pub is_accepted : Acceptance → Bool
-is_accepted (Accepted command) = true
-is_accepted (Faulty fault) = false
+abbrev pub is_accepted : Result Command Fault → Bool
+is_accepted (Ok command) = true
+is_accepted (Err fault) = false
 
 -- data that a command was accepted with: of a write's, what stands after the parameter's code is a value of that parameter
 abbrev pub FitsCommand : Command → List ℕ → Type 0

@@ -1,10 +1,8 @@
 -- The reader's three parameters.
 -- 01, The point reader, 'State' and the table; 003, 'Параметры считывателя'. Assumes nothing.
-use Rattle.std.specs.Prelude.{ℕ, ◌≤◌, ◌≡◌, Bool, true, cond, ◌&&◌, List, [], ◌∷◌, eqb, leb, length, get_or}
+use Rattle.std.specs.Prelude.{ℕ, ◌≤◌, ◌≡◌, Bool, true, cond, ◌&&◌, List, [], ◌∷◌, eqb, leb, length, get_or, Option, None, Some}
 use Rattle.request_spec.specs.declared.parameter.Parameter.{Parameter}
 use Rattle.request_spec.specs.declared.parameter.Parameter.TheVariants.{Speed, Settings, Cell}
-use Rattle.request_spec.specs.declared.parameter.Coded.{Coded}
-use Rattle.request_spec.specs.declared.parameter.Coded.TheVariants.{Known, Unknown}
 
 -- 02 interface speed, 05, 80
 abbrev pub parameter_code : Parameter → ℕ
@@ -19,11 +17,11 @@ length_of Settings = 4
 length_of Cell = 8
 
 -- the parameter that a code names, if there is one
-unfoldable pub parameter_with : ℕ → Coded
+unfoldable pub parameter_with : ℕ → Option Parameter
 parameter_with code =
-    cond (eqb code (parameter_code Speed)) (Known Speed)
-    (cond (eqb code (parameter_code Settings)) (Known Settings)
-    (cond (eqb code (parameter_code Cell)) (Known Cell) Unknown))
+    cond (eqb code (parameter_code Speed)) (Some Speed)
+    (cond (eqb code (parameter_code Settings)) (Some Settings)
+    (cond (eqb code (parameter_code Cell)) (Some Cell) None))
 
 -- interface speed, values 3..10
 abbrev pub is_speed : ℕ → Bool

@@ -1,40 +1,35 @@
 -- What the master reads in a reply's content without check.
 -- 01, 'Master's side', and Refusal numbers, rows 5 to 9. Assumes nothing.
-use Rattle.std.specs.Prelude.{ℕ, ◌≤◌, ◌≡◌, Bool, true, false, cond, ◌&&◌, ◌||◌, not, List, [], ◌∷◌, eqb, leb, length, get_or}
+use Rattle.std.specs.Prelude.{ℕ, ◌≤◌, ◌≡◌, Bool, true, false, cond, ◌&&◌, ◌||◌, not, List, [], ◌∷◌, eqb, leb, length, get_or, Result, Ok, Err}
 use Rattle.std.proofs.Math.Option.{Option, none, some}
 use Rattle.ground.specs.declared.refusal.Refusal.{Refusal}
 use Rattle.ground.specs.declared.refusal.Refusal.TheVariants.{BadRequest, WrongId, WrongCommand, WrongLength, WrongReason}
 use Rattle.ground.specs.Refusals.{number}
 use Rattle.request_spec.specs.declared.command.Command.{Command}
 use Rattle.request_spec.specs.declared.command.Command.TheVariants.{Header, Write, Read, Card}
-use Rattle.request_spec.specs.declared.command.Acceptance.{Acceptance}
-use Rattle.request_spec.specs.declared.command.Acceptance.TheVariants.{Accepted, Faulty}
+use Rattle.request_spec.specs.declared.command.Fault.{Fault}
 use Rattle.request_spec.specs.declared.reply.Meaning.{Meaning}
-use Rattle.request_spec.specs.declared.reply.Meaning.TheVariants as meaning
-use Rattle.request_spec.specs.declared.reply.Reading.{Reading}
+use Rattle.request_spec.specs.declared.reply.Meaning.TheVariants.{Ack, Nack, Data}
 use Rattle.request_spec.specs.Limits.{header_length}
 use Rattle.request_spec.specs.Parameters.{length_of}
 use Rattle.request_spec.specs.Cards.{is_code}
 use Rattle.request_spec.specs.Acceptance.{acceptance, Accepts}
 use Rattle.request_spec.specs.Replies.{Reply, ACK, NACK, DATA, sign, identifier_of, command_of, data_of, ack_byte}
 
--- what each case means where the reply has this data; none where the call refused
-abbrev pub as_reply : List ℕ → Meaning → Option Reply
-as_reply «data» meaning.None = none
-as_reply «data» meaning.Ack = some ACK
-as_reply «data» (meaning.Nack n) = some (NACK n)
-as_reply «data» meaning.Data = some (DATA «data»)
+-- what each case means where the reply has this data
+abbrev pub as_reply : List ℕ → Meaning → Reply
+as_reply «data» Ack = ACK
+as_reply «data» (Nack n) = NACK n
+as_reply «data» Data = DATA «data»
 
--- a call's result in the paper's numbers and words
+-- a call's result in the paper's numbers and words; no meaning where the call refused
 pub record Understood : Type 0 where
   pub refusal : ℕ
   pub meaning : Option Reply
 
-abbrev pub understood : List ℕ → Reading → Understood
-understood «data» r = record { refusal = number r.refusal; meaning = as_reply «data» r.meaning }
-
-abbrev pub reading_of : Refusal → Meaning → Reading
-reading_of why meaning = record { refusal = why; meaning = meaning }
+abbrev pub understood : List ℕ → Result Meaning Refusal → Understood
+understood «data» (Ok meaning) = record { refusal = 0; meaning = some (as_reply «data» meaning) }
+understood «data» (Err why) = record { refusal = number why; meaning = none }
 
 abbrev pub not_read : Refusal → Understood
 not_read why = record { refusal = number why; meaning = none }
@@ -93,9 +88,9 @@ read_as identifier code reply command =
     (cond (is_sign reply) (sign_read command (data_of reply)) (data_read command (data_of reply))))
 
 -- and before them row 5: a request that step 4 or 5 would refuse of every reader, also of a fast one (02, L2)
-abbrev pub read_by : ℕ → ℕ → List ℕ → Acceptance → Understood
-read_by identifier code reply (Accepted command) = read_as identifier code reply command
-read_by identifier code reply (Faulty fault) = not_read BadRequest
+abbrev pub read_by : ℕ → ℕ → List ℕ → Result Command Fault → Understood
+read_by identifier code reply (Ok command) = read_as identifier code reply command
+read_by identifier code reply (Err fault) = not_read BadRequest
 
 unfoldable pub reply_read : ℕ → ℕ → List ℕ → List ℕ → Understood
 reply_read identifier code «data» reply = read_by identifier code reply (acceptance code «data»)

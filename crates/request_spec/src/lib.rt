@@ -7,12 +7,12 @@ mod header;
 mod parameter;
 mod reply;
 
-pub use command::{Acceptance, Card, Command, Fault};
+pub use command::{Card, Command, Fault};
 pub use header::{
     FLAGS_AT, HEADER_LENGTH, KIND_AT, NAME_LENGTH, PROTOCOL_AT, SERIAL_AT, VERSION_AT,
 };
-pub use parameter::{CELL_LENGTH, Coded, Parameter, SETTINGS_LENGTH};
-pub use reply::{ACK, Meaning, Reading, SIGN};
+pub use parameter::{CELL_LENGTH, Parameter, SETTINGS_LENGTH};
+pub use reply::{ACK, Meaning, SIGN};
 
 // The most bytes of an antenna's answer.
 pub const MOST_ANTENNA: usize = 8;

@@ -4,7 +4,7 @@ ghost use Rattle.link_spec.specs.Receiving.{fresh_receiver as fresh_of, outside 
 
 use crate::address::has_address;
 use ground::Refusal;
-use link_spec::{Fresh, Phase, Receiver, Station};
+use link_spec::{Phase, Receiver, Station};
 use wire_spec::MOST_CONTENT;
 
 // A fresh receiver of the point line.
@@ -15,16 +15,15 @@ pub fn fresh_point() -> Receiver
 }
 
 // A fresh receiver of the addressed line for a station: 00 the master, else a reader's own address. Refuses 7F and FD..FF (BadAddress).
-pub fn fresh_addressed(own: u8) -> Fresh
-    ensures { made result ≡ fresh_made own }
+pub fn fresh_addressed(own: u8) -> Result<Receiver, Refusal>
+    ensures { made own result ≡ fresh_made own }
 {
-    let receiver = fresh(Station::Addressed(own));
-    let refusal = if has_address(Station::Addressed(own)) {
-        Refusal::None
+    let station = Station::Addressed(own);
+    if has_address(station) {
+        Ok(fresh(station))
     } else {
-        Refusal::BadAddress
-    };
-    Fresh { refusal, receiver }
+        Err(Refusal::BadAddress)
+    }
 }
 
 fn fresh(station: Station) -> Receiver

@@ -79,11 +79,10 @@ fn hear(
     let mut count: usize = 0;
     let mut end = at;
     while count < bodies.len() && out.len() - end >= LEAST_ROOM {
-        let heard = receive(receiver, &bodies[count..]);
+        let heard = receive(receiver, &bodies[count..]).unwrap();
         receiver = heard.receiver;
         count += heard.taken;
-        let placed = put_heard(records + (count - 1) as u32, line, heard, out, end);
-        end = placed.end;
+        end = put_heard(records + (count - 1) as u32, line, heard, out, end).unwrap();
     }
     Ran {
         receiver,

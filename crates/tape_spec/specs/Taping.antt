@@ -1,6 +1,6 @@
 -- What the calls that list a tape answer and leave in the buffer lent to them, for every input.
 -- 01, The listing program, and Refusal numbers, rows 1 and 4 in their sense (docs/DECISIONS.md, rows, reel and tape). Assumes nothing.
-use Rattle.std.specs.Prelude.{ℕ, ◌+◌, ◌-◌, Bool, true, false, cond, ◌&&◌, ◌||◌, List, [], ◌∷◌, ◌++◌, ltb, eqb, length}
+use Rattle.std.specs.Prelude.{ℕ, ◌+◌, ◌-◌, Bool, true, false, cond, ◌&&◌, ◌||◌, List, [], ◌∷◌, ◌++◌, ltb, eqb, length, Result, Ok, Err}
 use Rattle.ground.specs.declared.refusal.Refusal.{Refusal}
 use Rattle.ground.specs.declared.refusal.Refusal.TheVariants.{NoRoom, BadState}
 use Rattle.ground.specs.Refusals.{number}
@@ -92,16 +92,18 @@ pub record ListedOut : Type 0 where
   pub written : ℕ
   pub out : List ℕ
 
-abbrev pub listed_out : Listed → List ℕ → ListedOut
-listed_out r out = record { refusal = number r.refusal; tape = r.tape; taken = r.taken; written = r.written; out = out }
+-- a call that was not refused
+abbrev pub listed_to : Tape → ℕ → ℕ → List ℕ → ListedOut
+listed_to t taken written out = record { refusal = 0; tape = t; taken = taken; written = written; out = out }
 
 -- a refused call returns the number and counts 0, with tape and buffer as before
 abbrev pub not_listed : Refusal → Tape → List ℕ → ListedOut
 not_listed why t out = record { refusal = number why; tape = t; taken = 0; written = 0; out = out }
 
--- a call that was not refused
-abbrev pub listed_to : Tape → ℕ → ℕ → List ℕ → ListedOut
-listed_to t taken written out = record { refusal = 0; tape = t; taken = taken; written = written; out = out }
+-- what the result says of a call on this tape, which is as it came where the call was refused
+abbrev pub listed_out : Tape → Result Listed Refusal → List ℕ → ListedOut
+listed_out t (Ok r) out = listed_to r.tape r.taken r.written out
+listed_out t (Err why) out = not_listed why t out
 
 -- the text stands at the buffer's front, and bytes after it stay as they were
 abbrev pub text_written : Went → List ℕ → ListedOut

@@ -1,5 +1,4 @@
 // A tape under way, and what a call on one of its chunks answers.
-use ground::Refusal;
 use link_spec::Receiver;
 
 // The line on which a byte was heard: the point line, or an addressed line as its master hears it.
@@ -36,7 +35,6 @@ pub struct Tape {
 // What one call listed: the tape for the next call, how many bytes of the chunk were taken, and how many of the buffer were written.
 #[derive(Clone, Copy)]
 pub struct Listed {
-    pub refusal: Refusal,
     pub tape: Tape,
     pub taken: usize,
     pub written: usize,

@@ -47,7 +47,8 @@ ended-injective at (Ok n) (Err w) o p e = absurd (number-some w (sym (ap (λ (a 
 ended-injective at (Err v) (Ok m) o p e = absurd (number-some v (ap (λ (a : Ended). a.refusal) e))
 ended-injective at (Err v) (Err w) o p e = err-injective v w (ap (λ (a : Ended). a.refusal) e)
 
-out-ended : (at : ℕ) (r : Result ℕ Refusal) (o : List ℕ) → (ended at r o).out ≡ o
+-- what a call left is the buffer, refused or not
+pub out-ended : (at : ℕ) (r : Result ℕ Refusal) (o : List ℕ) → (ended at r o).out ≡ o
 out-ended at (Ok n) o = refl
 out-ended at (Err v) o = refl
 

@@ -9,19 +9,16 @@ use native.Mathlib.Omega.{arith}
 use lib.Dec.{eqb}
 use lib.ListN.{length, get_or, take, drop}
 use borrow.Author.Tests.{eqb-true}
+use Rattle.std.specs.Prelude.{Option, None, Some, Result, Ok, Err}
 use Rattle.ground.proofs.Laws.Choice.{cond-elim, or_elim, or-none}
 use Rattle.ground.proofs.Laws.Lists.{take_rest}
 use Rattle.link_spec.specs.Limits.{most_data}
 use Rattle.request_spec.specs.declared.parameter.Parameter.{Parameter}
 use Rattle.request_spec.specs.declared.parameter.Parameter.TheVariants.{Speed, Settings, Cell}
-use Rattle.request_spec.specs.declared.parameter.Coded.{Coded}
-use Rattle.request_spec.specs.declared.parameter.Coded.TheVariants as coded
-use Rattle.request_spec.specs.declared.parameter.Coded.TheVariants.{Known}
 use Rattle.request_spec.specs.declared.command.Card.TheVariants.{Marin, Hid, Motorola}
 use Rattle.request_spec.specs.declared.command.Command.{Command}
 use Rattle.request_spec.specs.declared.command.Command.TheVariants.{Header, Write, Read, Card}
-use Rattle.request_spec.specs.declared.command.Acceptance.{Acceptance}
-use Rattle.request_spec.specs.declared.command.Acceptance.TheVariants.{Accepted, Faulty}
+use Rattle.request_spec.specs.declared.command.Fault.{Fault}
 use Rattle.request_spec.specs.declared.command.Fault.TheVariants.{UnknownCode, BadData}
 use Rattle.request_spec.specs.Parameters.{parameter_code, parameter_with, is_value_of, of_speed}
 use Rattle.request_spec.specs.Acceptance.{bare_accepted, write_accepted_to, write_accepted, read_accepted_from, read_accepted, is_known, acceptance, command_code, Judgement, by_code, by_codes, by_number, judgement, FitsCommand, Accepts, header, write, read, marin, hid, motorola}
@@ -29,35 +26,35 @@ use Rattle.request_spec.proofs.Laws.Parameters.{value-sizes, length_of-most, val
 
 -- ---- data as the code reads it: by its length and its places
 
-pub bare-none : (command : Command) («data» : List ℕ) → length «data» ≡ 0 → Accepted command ≡ bare_accepted command «data»
+pub bare-none : (command : Command) («data» : List ℕ) → length «data» ≡ 0 → Ok command ≡ bare_accepted command «data»
 bare-none command [] none = refl
 bare-none command (b ∷ more) none = absurd (omega arith)
 
-pub bare-some : (command : Command) («data» : List ℕ) → (length «data» ≡ 0 → ⊥) → Faulty BadData ≡ bare_accepted command «data»
+pub bare-some : (command : Command) («data» : List ℕ) → (length «data» ≡ 0 → ⊥) → Err BadData ≡ bare_accepted command «data»
 bare-some command [] some = absurd (some refl)
 bare-some command (b ∷ more) some = refl
 
-pub write-none : («data» : List ℕ) → length «data» ≡ 0 → Faulty BadData ≡ write_accepted «data»
+pub write-none : («data» : List ℕ) → length «data» ≡ 0 → Err BadData ≡ write_accepted «data»
 write-none [] none = refl
 write-none (b ∷ more) none = absurd (omega arith)
 
-pub write-some : {coded : Coded} («data» : List ℕ) → (length «data» ≡ 0 → ⊥) → parameter_with (get_or «data» 0 0) ≡ coded
+pub write-some : {coded : Option Parameter} («data» : List ℕ) → (length «data» ≡ 0 → ⊥) → parameter_with (get_or «data» 0 0) ≡ coded
     → write_accepted_to coded (drop 1 «data») ≡ write_accepted «data»
 write-some [] some known = absurd (some refl)
-write-some (code ∷ value) some known = ap (λ (k : Coded). write_accepted_to k value) (sym known)
+write-some (code ∷ value) some known = ap (λ (k : Option Parameter). write_accepted_to k value) (sym known)
 
-pub write-value : {p : Parameter} {t : Bool} («data» : List ℕ) → (length «data» ≡ 0 → ⊥) → parameter_with (get_or «data» 0 0) ≡ Known p
+pub write-value : {p : Parameter} {t : Bool} («data» : List ℕ) → (length «data» ≡ 0 → ⊥) → parameter_with (get_or «data» 0 0) ≡ Some p
     → is_value_of p (drop 1 «data») ≡ t
-    → cond t (Accepted (Write p)) (Faulty BadData) ≡ write_accepted «data»
+    → cond t (Ok (Write p)) (Err BadData) ≡ write_accepted «data»
 write-value {p} «data» some known taken =
-    ap (λ (t : Bool). cond t (Accepted (Write p)) (Faulty BadData)) (sym taken) ∙ write-some «data» some known
+    ap (λ (t : Bool). cond t (Ok (Write p)) (Err BadData)) (sym taken) ∙ write-some «data» some known
 
-pub read-other : («data» : List ℕ) → (length «data» ≡ 1 → ⊥) → Faulty BadData ≡ read_accepted «data»
+pub read-other : («data» : List ℕ) → (length «data» ≡ 1 → ⊥) → Err BadData ≡ read_accepted «data»
 read-other [] other = refl
 read-other (code ∷ []) other = absurd (other refl)
 read-other (code ∷ b ∷ more) other = refl
 
-pub read_one : {coded : Coded} («data» : List ℕ) → length «data» ≡ 1 → parameter_with (get_or «data» 0 0) ≡ coded
+pub read_one : {coded : Option Parameter} («data» : List ℕ) → length «data» ≡ 1 → parameter_with (get_or «data» 0 0) ≡ coded
     → read_accepted_from coded ≡ read_accepted «data»
 read_one [] one known = absurd (omega arith)
 read_one (code ∷ []) one known = ap read_accepted_from (sym known)
@@ -65,15 +62,15 @@ read_one (code ∷ b ∷ more) one known = absurd (omega arith)
 
 -- ---- what is accepted is a row of the table
 
-abbrev Row : ℕ → List ℕ → Acceptance → Type 0
-Row code «data» (Accepted command) = Accepts code «data» command
-Row code «data» (Faulty UnknownCode) = is_known code ≡ false
-Row code «data» (Faulty BadData) = Unit {0}
+abbrev Row : ℕ → List ℕ → Result Command Fault → Type 0
+Row code «data» (Ok command) = Accepts code «data» command
+Row code «data» (Err UnknownCode) = is_known code ≡ false
+Row code «data» (Err BadData) = Unit {0}
 
 -- a code names its parameter
-abbrev Named : ℕ → Coded → Type 0
-Named code coded.Unknown = Unit {0}
-Named code (Known p) = code ≡ parameter_code p
+abbrev Named : ℕ → Option Parameter → Type 0
+Named code None = Unit {0}
+Named code (Some p) = code ≡ parameter_code p
 
 parameter-named : (code : ℕ) → Named code (parameter_with code)
 unfolding parameter_with
@@ -82,7 +79,7 @@ parameter-named code =
     (λ _. cond-elim (Named code) (eqb code 0x05) (eqb-true code 0x05)
     (λ _. cond-elim (Named code) (eqb code 0x80) (eqb-true code 0x80) (λ _. tt)))
 
-parameter-with : (p : Parameter) → parameter_with (parameter_code p) ≡ Known p
+parameter-with : (p : Parameter) → parameter_with (parameter_code p) ≡ Some p
 unfolding parameter_with
 parameter-with Speed = refl
 parameter-with Settings = refl
@@ -96,9 +93,9 @@ write-row : («data» : List ℕ) → Row 0x01 «data» (write_accepted «data»
 write-row [] = tt
 write-row (code ∷ value) = of (parameter_with code) (parameter-named code)
   where
-    of : (k : Coded) → Named code k → Row 0x01 (code ∷ value) (write_accepted_to k value)
-    of coded.Unknown named = tt
-    of (Known p) named =
+    of : (k : Option Parameter) → Named code k → Row 0x01 (code ∷ value) (write_accepted_to k value)
+    of None named = tt
+    of (Some p) named =
         cond-elim (Row 0x01 (code ∷ value)) (is_value_of p value)
         (λ taken. subst⁻¹ (λ (k : ℕ). Accepts 0x01 (k ∷ value) (Write p)) named (write p value ((value-is p value).0 taken))) (λ _. tt)
 
@@ -107,12 +104,12 @@ read-row [] = tt
 read-row (code ∷ b ∷ more) = tt
 read-row (code ∷ []) = of (parameter_with code) (parameter-named code)
   where
-    of : (k : Coded) → Named code k → Row 0x02 (code ∷ []) (read_accepted_from k)
-    of coded.Unknown named = tt
-    of (Known p) named = subst⁻¹ (λ (k : ℕ). Accepts 0x02 (k ∷ []) (Read p)) named (read p)
+    of : (k : Option Parameter) → Named code k → Row 0x02 (code ∷ []) (read_accepted_from k)
+    of None named = tt
+    of (Some p) named = subst⁻¹ (λ (k : ℕ). Accepts 0x02 (k ∷ []) (Read p)) named (read p)
 
 module _ (code : ℕ) («data» : List ℕ) where
-  at_code : (k : ℕ) (a : Acceptance) → Row k «data» a → eqb code k ≡ true → Row code «data» a
+  at_code : (k : ℕ) (a : Result Command Fault) → Row k «data» a → eqb code k ≡ true → Row code «data» a
   at_code k a row t = subst⁻¹ (λ (n : ℕ). Row n «data» a) (eqb-true code k t) row
 
   by_row : Row code «data» (acceptance code «data»)
@@ -126,14 +123,14 @@ module _ (code : ℕ) («data» : List ℕ) where
       (λ e. cond-elim P (eqb code 0x18) (at_code 0x18 (bare_accepted (Card Motorola) «data») (bare-row 0x18 (Card Motorola) «data» motorola))
       (λ f. rw (a, b, c, d, e) f))))))
     where
-      P : Acceptance → Type 0
+      P : Result Command Fault → Type 0
       P = Row code «data»
 
   -- NACK 2 is for a code that does not exist, and only for that
-  pub unknown-only : acceptance code «data» ≡ Faulty UnknownCode → is_known code ≡ false
+  pub unknown-only : acceptance code «data» ≡ Err UnknownCode → is_known code ≡ false
   unknown-only asked = subst (Row code «data») asked by_row
 
-  pub unknown-code : is_known code ≡ false → acceptance code «data» ≡ Faulty UnknownCode
+  pub unknown-code : is_known code ≡ false → acceptance code «data» ≡ Err UnknownCode
   unfolding acceptance
   unknown-code unknown =
       let (a, s) = or-none (eqb code 0x00) _ unknown in
@@ -143,11 +140,11 @@ module _ (code : ℕ) («data» : List ℕ) where
       let (e, f) = or-none (eqb code 0x14) _ v in
       rw (a, b, c, d, e, f)
 
-  pub accepts : {command : Command} → acceptance code «data» ≡ Accepted command → Accepts code «data» command
+  pub accepts : {command : Command} → acceptance code «data» ≡ Ok command → Accepts code «data» command
   accepts asked = subst (Row code «data») asked by_row
 
 -- and each row is accepted
-pub accepted : {code : ℕ} {«data» : List ℕ} {command : Command} → Accepts code «data» command → acceptance code «data» ≡ Accepted command
+pub accepted : {code : ℕ} {«data» : List ℕ} {command : Command} → Accepts code «data» command → acceptance code «data» ≡ Ok command
 unfolding acceptance
 accepted header = refl
 accepted (write p value fits) = simp (parameter-with p, (value-is p value).1 fits)
@@ -217,30 +214,30 @@ accepted-code motorola = refl
 abbrev parameter_of : ℕ → Parameter
 parameter_of code = cond (eqb code (parameter_code Speed)) Speed (cond (eqb code (parameter_code Settings)) Settings Cell)
 
-abbrev case_of : Judgement → Acceptance
+abbrev case_of : Judgement → Result Command Fault
 case_of (by_code code) =
-    cond (eqb code 0x00) (Accepted Header)
-    (cond (eqb code 0x10) (Accepted (Card Marin)) (cond (eqb code 0x14) (Accepted (Card Hid)) (Accepted (Card Motorola))))
-case_of (by_codes code p) = cond (eqb code 0x01) (Accepted (Write (parameter_of p))) (Accepted (Read (parameter_of p)))
-case_of (by_number n) = cond (eqb n 2) (Faulty UnknownCode) (Faulty BadData)
+    cond (eqb code 0x00) (Ok Header)
+    (cond (eqb code 0x10) (Ok (Card Marin)) (cond (eqb code 0x14) (Ok (Card Hid)) (Ok (Card Motorola))))
+case_of (by_codes code p) = cond (eqb code 0x01) (Ok (Write (parameter_of p))) (Ok (Read (parameter_of p)))
+case_of (by_number n) = cond (eqb n 2) (Err UnknownCode) (Err BadData)
 
-case-judged : (a : Acceptance) → case_of (judgement a) ≡ a
-case-judged (Accepted Header) = refl
-case-judged (Accepted (Write Speed)) = refl
-case-judged (Accepted (Write Settings)) = refl
-case-judged (Accepted (Write Cell)) = refl
-case-judged (Accepted (Read Speed)) = refl
-case-judged (Accepted (Read Settings)) = refl
-case-judged (Accepted (Read Cell)) = refl
-case-judged (Accepted (Card Marin)) = refl
-case-judged (Accepted (Card Hid)) = refl
-case-judged (Accepted (Card Motorola)) = refl
-case-judged (Faulty UnknownCode) = refl
-case-judged (Faulty BadData) = refl
+case-judged : (a : Result Command Fault) → case_of (judgement a) ≡ a
+case-judged (Ok Header) = refl
+case-judged (Ok (Write Speed)) = refl
+case-judged (Ok (Write Settings)) = refl
+case-judged (Ok (Write Cell)) = refl
+case-judged (Ok (Read Speed)) = refl
+case-judged (Ok (Read Settings)) = refl
+case-judged (Ok (Read Cell)) = refl
+case-judged (Ok (Card Marin)) = refl
+case-judged (Ok (Card Hid)) = refl
+case-judged (Ok (Card Motorola)) = refl
+case-judged (Err UnknownCode) = refl
+case-judged (Err BadData) = refl
 
-pub judgement-injective : (a b : Acceptance) → judgement a ≡ judgement b → a ≡ b
+pub judgement-injective : (a b : Result Command Fault) → judgement a ≡ judgement b → a ≡ b
 judgement-injective = LeftInverse-Injective case_of judgement case-judged
 
 -- so what a call answered is what it says
-pub judged-as : {r k : Acceptance} (a : Acceptance) → judgement r ≡ judgement a → r ≡ k → a ≡ k
+pub judged-as : {r k : Result Command Fault} (a : Result Command Fault) → judgement r ≡ judgement a → r ≡ k → a ≡ k
 judged-as {r} a says told = sym (judgement-injective r a says) ∙ told

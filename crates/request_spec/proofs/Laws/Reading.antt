@@ -9,12 +9,12 @@ use native.Mathlib.Omega.{arith}
 use lib.Dec.{eqb}
 use lib.ListN.{length}
 use borrow.Author.Tests.{eqb-true, eqb-false, eq-eqb, ne_eqb}
+use Rattle.std.specs.Prelude.{Result, Ok, Err}
 use Rattle.ground.specs.declared.refusal.Refusal.TheVariants.{BadRequest, WrongId, WrongCommand, WrongReason}
 use Rattle.ground.proofs.Laws.Choice.{cond-elim, between-true, between_is, no-case}
 use Rattle.request_spec.specs.declared.parameter.Parameter.TheVariants.{Speed, Settings, Cell}
 use Rattle.request_spec.specs.declared.command.Command.{Command}
-use Rattle.request_spec.specs.declared.command.Acceptance.{Acceptance}
-use Rattle.request_spec.specs.declared.command.Acceptance.TheVariants.{Accepted, Faulty}
+use Rattle.request_spec.specs.declared.command.Fault.{Fault}
 use Rattle.request_spec.specs.Acceptance.{acceptance, Accepts, header, write, read, marin, hid, motorola}
 use Rattle.request_spec.specs.Replies.{ACK, NACK, DATA, sign, ack_byte, identifier_of, command_of, data_of, front_of}
 use Rattle.request_spec.specs.Reading.{Understood, not_read, has_read, is_due, wrong_id, is_sign, sign_read, data_read, read_as, read_by, reply_read, is_write, is_nack, reason_read, Due, for_header, for_speed, for_settings, for_cell, for_marin, for_hid, for_motorola, ByReply, empty, other_identifier, no_command, other_command, echo, data_length, sign_length, other_reason, ack_for_data, ack, nack, bytes, MasterTable, bad_request, acceptable}
@@ -109,7 +109,7 @@ module _ (identifier code : ℕ) (asks : Command) where
   due-read due plain other sized = data-read due plain other ∙ rw sized
 
 -- so is the reply to a request that a reader accepts
-module _ (identifier code : ℕ) («data» : List ℕ) (command : Command) (asked : acceptance code «data» ≡ Accepted command) where
+module _ (identifier code : ℕ) («data» : List ℕ) (command : Command) (asked : acceptance code «data» ≡ Ok command) where
   reads_as : (reply : List ℕ) → reply_read identifier code «data» reply ≡ read_as identifier code reply command
   unfolding reply_read
   reads_as reply = rw asked
@@ -244,15 +244,15 @@ module _ (identifier code : ℕ) («data» : List ℕ) where
     unfolding reply_read
     by-table = of (acceptance code «data») refl
       where
-        of : (k : Acceptance) → acceptance code «data» ≡ k → MasterTable identifier code «data» reply (read_by identifier code reply k)
-        of (Faulty fault) asked = bad_request (λ command row. no-case (cc (accepted row)))
-        of (Accepted command) asked = let row = accepts code «data» asked in acceptable row (by-reply row reply)
+        of : (k : Result Command Fault) → acceptance code «data» ≡ k → MasterTable identifier code «data» reply (read_by identifier code reply k)
+        of (Err fault) asked = bad_request (λ command row. no-case (cc (accepted row)))
+        of (Ok command) asked = let row = accepts code «data» asked in acceptable row (by-reply row reply)
 
     pub table-only : {answer : Understood} → MasterTable identifier code «data» reply answer → answer ≡ reply_read identifier code «data» reply
     unfolding reply_read
     table-only (bad_request none) = of (acceptance code «data») refl
       where
-        of : (k : Acceptance) → acceptance code «data» ≡ k → not_read BadRequest ≡ read_by identifier code reply k
-        of (Faulty fault) asked = refl
-        of (Accepted command) asked = absurd (none command (accepts code «data» asked))
+        of : (k : Result Command Fault) → acceptance code «data» ≡ k → not_read BadRequest ≡ read_by identifier code reply k
+        of (Err fault) asked = refl
+        of (Ok command) asked = absurd (none command (accepts code «data» asked))
     table-only (acceptable row why) = rw (accepted row) (reply-only row why)

@@ -9,8 +9,9 @@ use native.Mathlib.Omega.{arith}
 use lib.Dec.{ltb}
 use lib.ListN.{length, take}
 use borrow.Author.Tests.{ltb-true, ltb-false}
+use Rattle.std.specs.Prelude.{Result, Ok, Err}
 use Rattle.ground.specs.declared.refusal.Refusal.TheVariants.{BadRequest}
-use Rattle.ground.specs.declared.refusal.Counted.{Counted}
+use Rattle.ground.specs.declared.refusal.Refusal.{Refusal}
 use Rattle.ground.specs.Refusals.{tally, Keeps}
 use Rattle.ground.proofs.Laws.Choice.{cond-elim}
 use Rattle.wire_spec.specs.Image.{image}
@@ -25,23 +26,22 @@ use Rattle.link_spec.specs.Hearing.{Told, told_at, IsFresh, Hearing}
 use Rattle.link_spec.proofs.Laws.Writers.{point-goes-on, point-by-table}
 use Rattle.link_spec.proofs.Laws.Listed.{point-listed}
 use Rattle.request_spec.specs.declared.command.Command.{Command}
-use Rattle.request_spec.specs.declared.command.Acceptance.{Acceptance}
-use Rattle.request_spec.specs.declared.command.Acceptance.TheVariants.{Accepted, Faulty}
+use Rattle.request_spec.specs.declared.command.Fault.{Fault}
 use Rattle.request_spec.specs.Acceptance.{acceptance, is_accepted, Accepts}
 use Rattle.request_spec.specs.Requesting.{request_written, RequestTable, bad_request, no_room, frame}
 use Rattle.request_spec.proofs.Laws.Acceptance.{accepts, accepted, accepted-short}
 
 -- a code with data is accepted or not
-either : (k : Acceptance) → (is_accepted k ≡ false) ⊎ ((command : Command) × (k ≡ Accepted command))
-either (Faulty fault) = inl refl
-either (Accepted command) = inr (command, refl)
+either : (k : Result Command Fault) → (is_accepted k ≡ false) ⊎ ((command : Command) × (k ≡ Ok command))
+either (Err fault) = inl refl
+either (Ok command) = inr (command, refl)
 
 module _ (identifier code : ℕ) («data» out : List ℕ) where
   pub request-refused : is_accepted (acceptance code «data») ≡ false → request_written identifier code «data» out ≡ not_written BadRequest out
   unfolding request_written
   request-refused none = rw none
 
-  pub request-written : {command : Command} → acceptance code «data» ≡ Accepted command
+  pub request-written : {command : Command} → acceptance code «data» ≡ Ok command
       → point_written identifier code «data» out ≡ request_written identifier code «data» out
   unfolding request_written
   request-written asked = rw asked (point-goes-on identifier code «data» out (accepted-short (accepts code «data» asked)))
@@ -51,10 +51,10 @@ module _ (identifier code : ℕ) («data» out : List ℕ) where
   unfolding request_written image_written
   by-table = of (acceptance code «data») refl
     where
-      of : (k : Acceptance) → acceptance code «data» ≡ k → RequestTable identifier code «data» out
+      of : (k : Result Command Fault) → acceptance code «data» ≡ k → RequestTable identifier code «data» out
           (cond (is_accepted k) (image_written (point_content identifier code «data») out) (not_written BadRequest out))
-      of (Faulty fault) is = bad_request (λ command row. true≢false (sym (ap is_accepted (accepted row)) ∙ ap is_accepted is))
-      of (Accepted command) is =
+      of (Err fault) is = bad_request (λ command row. true≢false (sym (ap is_accepted (accepted row)) ∙ ap is_accepted is))
+      of (Ok command) is =
           cond-elim (RequestTable identifier code «data» out) (ltb (length out) (length (image (point_content identifier code «data»))))
           (λ short. no_room (accepts code «data» is) (ltb-true (length out) (length (image (point_content identifier code «data»))) short))
           (λ fits. frame (accepts code «data» is) (ltb-false (length out) (length (image (point_content identifier code «data»))) fits))
@@ -67,9 +67,9 @@ module _ (identifier code : ℕ) («data» out : List ℕ) where
   pub table-only : {w : After} → RequestTable identifier code «data» out w → w ≡ request_written identifier code «data» out
   table-only (bad_request none) = sym (request-refused (of (acceptance code «data») refl))
     where
-      of : (k : Acceptance) → acceptance code «data» ≡ k → is_accepted k ≡ false
-      of (Faulty fault) is = refl
-      of (Accepted command) is = absurd (none command (accepts code «data» is))
+      of : (k : Result Command Fault) → acceptance code «data» ≡ k → is_accepted k ≡ false
+      of (Err fault) is = refl
+      of (Ok command) is = absurd (none command (accepts code «data» is))
   table-only (no_room row short) = sym (written_as row ∙ written-short (point_content identifier code «data») out short)
   table-only (frame row fits) = sym (written_as row ∙ written-whole (point_content identifier code «data») out fits)
 
@@ -82,11 +82,11 @@ module _ (identifier code : ℕ) («data» out : List ℕ) where
 
   -- where the writer did not refuse, there is a command
   pub written-asks : (request_written identifier code «data» out).tally.refusal ≡ 0
-      → (command : Command) × (acceptance code «data» ≡ Accepted command)
+      → (command : Command) × (acceptance code «data» ≡ Ok command)
   written-asks done = of (either (acceptance code «data»))
     where
-      of : (is_accepted (acceptance code «data») ≡ false) ⊎ ((command : Command) × (acceptance code «data» ≡ Accepted command))
-          → (command : Command) × (acceptance code «data» ≡ Accepted command)
+      of : (is_accepted (acceptance code «data») ≡ false) ⊎ ((command : Command) × (acceptance code «data» ≡ Ok command))
+          → (command : Command) × (acceptance code «data» ≡ Ok command)
       of (inl bad) = absurd (omega (arith, sym (ap (λ (a : After). a.tally.refusal) (request-refused bad)) ∙ done))
       of (inr asks) = asks
 
@@ -100,7 +100,7 @@ module _ (identifier code : ℕ) («data» out : List ℕ) where
       no_row (no_room fits good short) five = omega arith
       no_row (frame fits good room) five = omega arith
 
-      of : (is_accepted (acceptance code «data») ≡ false) ⊎ ((command : Command) × (acceptance code «data» ≡ Accepted command))
+      of : (is_accepted (acceptance code «data») ≡ false) ⊎ ((command : Command) × (acceptance code «data» ≡ Ok command))
           → is_accepted (acceptance code «data») ≡ false
       of (inl none) = none
       of (inr (command, asked)) =
