@@ -1,10 +1,10 @@
 -- The three demands that the library keeps, as three propositions about the statements of its calls. `proofs/Laws/Demands` proves each.
 -- README's head has them in plain words; 01, 'How much each call must say', says what they have to rule out. Assumes nothing.
-use Rattle.std.specs.Prelude.{◌≡◌, Bool, true, false, ℕ, ◌+◌, ◌≤◌, length, take, drop}
+use Rattle.std.specs.Prelude.{◌≡◌, Bool, true, false, ℕ, ◌+◌, ◌≤◌, length, take, drop, Result, Ok}
 use mathlib.Core.List.{List, ◌∷◌, ◌++◌, Memᴰ}
 use Rattle.std.proofs.Math.Option.{some}
-use Rattle.ground.specs.declared.refusal.Counted.{Counted}
-use Rattle.ground.specs.Refusals.{number, tally}
+use Rattle.ground.specs.declared.refusal.Refusal.{Refusal}
+use Rattle.ground.specs.Refusals.{tally}
 use Rattle.checks.specs.Fcs.{residue, good_residue}
 use Rattle.wire_spec.specs.Stuffing.{stuffing, unstuffing}
 use Rattle.wire_spec.specs.Image.{image}
@@ -22,7 +22,6 @@ use Rattle.link_spec.specs.Receiving.{saying, received}
 use Rattle.link_spec.specs.Hearing.{Told, told_at, IsFresh, Hearing}
 use Rattle.link_spec.specs.Listing.{Lists}
 use Rattle.request_spec.specs.declared.parameter.Parameter.{Parameter}
-use Rattle.request_spec.specs.declared.command.Acceptance.TheVariants.{Accepted}
 use Rattle.request_spec.specs.declared.command.Command.{Command}
 use Rattle.request_spec.specs.declared.command.Command.TheVariants.{Write, Read}
 use Rattle.request_spec.specs.Limits.{header_length}
@@ -31,7 +30,6 @@ use Rattle.request_spec.specs.Replies.{NACK, DATA, sign, identifier_of, command_
 use Rattle.request_spec.specs.Requesting.{request_written}
 use Rattle.reader_spec.specs.declared.reader.Asking.TheVariants.{Right}
 use Rattle.reader_spec.specs.declared.reader.Reader.{Reader}
-use Rattle.reader_spec.specs.declared.reader.Powered.{Powered}
 use Rattle.reader_spec.specs.State.{state_of}
 use Rattle.reader_spec.specs.Asking.{asking}
 use Rattle.reader_spec.specs.Replies.{reply_image}
@@ -70,18 +68,18 @@ pub record Demand2 : Type 0 where
   pub request_writes : (identifier code : ℕ) («data» out : List ℕ) {command : Command} → let content = point_content identifier code «data» in
       Accepts code «data» command → length (image content) ≤ length out → request_written identifier code «data» out ≡ putting content out
   -- what was written and not refused is heard wherever it stands, with the fields that were written
-  pub point_heard : (r : Counted) (identifier command : ℕ) («data» out out' before rest : List ℕ) {s : Receiver} {all : List Told}
+  pub point_heard : (r : Result ℕ Refusal) (identifier command : ℕ) («data» out out' before rest : List ℕ) {s : Receiver} {all : List Told}
       → after r out' ≡ point_written identifier command «data» out → (tally r).refusal ≡ 0 → IsFresh Point s
-      → Hearing (before ++ (take r.count out' ++ rest)) s 0 all
-      → Memᴰ (told_at (length before + r.count) FRAME (identifier ∷ command ∷ «data»)) all
-  pub addressed_heard : (r : Counted) (own address identifier command : ℕ) («data» out out' before rest : List ℕ) {s : Receiver} {all : List Told}
+      → Hearing (before ++ (take (tally r).count out' ++ rest)) s 0 all
+      → Memᴰ (told_at (length before + (tally r).count) FRAME (identifier ∷ command ∷ «data»)) all
+  pub addressed_heard : (r : Result ℕ Refusal) (own address identifier command : ℕ) («data» out out' before rest : List ℕ) {s : Receiver} {all : List Told}
       → after r out' ≡ addressed_written address identifier command «data» out → (tally r).refusal ≡ 0 → takes own address ≡ true → IsFresh (Addressed own) s
-      → Hearing (before ++ (take r.count out' ++ rest)) s 0 all
-      → Memᴰ (told_at (length before + r.count) FRAME (address ∷ identifier ∷ command ∷ «data»)) all
-  pub request_heard : (r : Counted) (identifier code : ℕ) («data» out out' before rest : List ℕ) {s : Receiver} {all : List Told}
+      → Hearing (before ++ (take (tally r).count out' ++ rest)) s 0 all
+      → Memᴰ (told_at (length before + (tally r).count) FRAME (address ∷ identifier ∷ command ∷ «data»)) all
+  pub request_heard : (r : Result ℕ Refusal) (identifier code : ℕ) («data» out out' before rest : List ℕ) {s : Receiver} {all : List Told}
       → after r out' ≡ request_written identifier code «data» out → (tally r).refusal ≡ 0 → IsFresh Point s
-      → Hearing (before ++ (take r.count out' ++ rest)) s 0 all
-      → Memᴰ (told_at (length before + r.count) FRAME (identifier ∷ code ∷ «data»)) all
+      → Hearing (before ++ (take (tally r).count out' ++ rest)) s 0 all
+      → Memᴰ (told_at (length before + (tally r).count) FRAME (identifier ∷ code ∷ «data»)) all
   pub check : (identifier command : ℕ) («data» : List ℕ) → residue (point_content identifier command «data») ≡ good_residue
   pub stuffed : (content : List ℕ) → unstuffing (stuffing content) ≡ some content
   -- each call of a session answers as the paper's steps say; there are sessions, of a fast reader and of a slow one, every call can be made in
@@ -90,17 +88,17 @@ pub record Demand2 : Type 0 where
   pub begins : (alone fast : Bool) (store : List ℕ) → (s : Reader) × ReaderSession alone s store (begun fast)
   pub goes_on : {alone : Bool} {h : History} {s : Reader} {held : List ℕ} (i : Input) (lent : Buffers) → StoreKept alone h held lent.store
       → length i.header ≡ header_length → (c : Call alone h s held) × (c.input ≡ i) × (c.lent ≡ lent)
-  pub powers : {alone : Bool} {s : Reader} {held : List ℕ} {h : History} → ReaderSession alone s held h → (r : Powered)
-      → powering r ≡ powered_on (state_of s) → number r.refusal ≡ 0
+  pub powers : {alone : Bool} {s : Reader} {held : List ℕ} {h : History} → ReaderSession alone s held h → (r : Result Reader Refusal)
+      → powering s r ≡ powered_on (state_of s) → (powering s r).refusal ≡ 0
   -- a NACK is heard wherever it stands, and read as what it is by a master whose request was acceptable
   pub nack_read : (n identifier code : ℕ) («data» before rest : List ℕ) {command : Command} {m : Receiver} {all : List Told} → 1 ≤ n → n ≤ 6
       → Accepts code «data» command → IsFresh Point m → let bytes = reply_image identifier sign (NACK n) in
       Hearing (before ++ (bytes ++ rest)) m 0 all → HeardAndRead identifier code «data» before all bytes (NACK n)
   -- what was written to a parameter is what a later read sends, until another write of it or, for a speed above 7, a power-on, which leaves 3
   pub values : {alone with_power : Bool} {s t : Reader} {held kept : List ℕ} {h k : History} {p : Parameter} → ReaderSession alone s held h
-      → (w : Call alone h s held) → Done w → is_executed h w.input ≡ true → asks_for w.input ≡ Accepted (Write p)
+      → (w : Call alone h s held) → Done w → is_executed h w.input ≡ true → asks_for w.input ≡ Ok (Write p)
       → Unwritten alone p w.answer.reader w.left.store (next_history h w.input) t kept k with_power
-      → (r : Call alone k t kept) → Done r → is_executed k r.input ≡ true → asks_for r.input ≡ Accepted (Read p)
+      → (r : Call alone k t kept) → Done r → is_executed k r.input ≡ true → asks_for r.input ≡ Ok (Read p)
       → bytes_sent r ≡ reply_image (identifier_of r.input.content) (command_of r.input.content)
       (DATA (left_of with_power p (drop 1 (data_of w.input.content))))
   -- after a command was executed, and any calls that execute nothing and leave what is remembered of the store, a frame with its identifier and
@@ -120,7 +118,8 @@ pub record Demand3 : Type 0 where
   -- the cuts do not matter to any event, and any cut goes on
   pub cuts : {station : Station} {s r : Receiver} {stream : List ℕ} {all others : List Told} → IsFresh station s → Hearing stream s 0 all
       → IsFresh station r → Hearing stream r 0 others → all ≡ others
-  pub goes_on : {station : Station} {s : Receiver} → ReachedReceiver station s → (piece : List ℕ) (r : Heard) → saying r ≡ received s piece → TakesPiece s piece r
+  pub goes_on : {station : Station} {s : Receiver} → ReachedReceiver station s → (piece : List ℕ) (r : Result Heard Refusal)
+      → saying s r ≡ received s piece → TakesPiece s piece (saying s r)
   -- there is a fresh receiver of either kind, and a hearing of every stream
   pub point : (s : Receiver) × IsFresh Point s
   pub station : (own : ℕ) → (NoStation own → ⊥) → (s : Receiver) × IsFresh (Addressed own) s
@@ -129,6 +128,6 @@ pub record Demand3 : Type 0 where
   pub tape : {bytes text : List ℕ} → Listing bytes text → let p = parts 0 bytes in
       (all : List Entry) × (text ≡ header_row ++ (entry_rows all ++ last_row p.ending (length p.records))) × Shows p.records all
   pub tape_cuts : {bytes text : List ℕ} → Listing bytes text → text ≡ listing bytes
-  pub tape_goes_on : {t : Tape} → ReachedTape t → (chunk out last : List ℕ) (r : Listed) → least_room ≤ length out
-      → listed_out r last ≡ listed t chunk out → TakesChunk t chunk out r
+  pub tape_goes_on : {t : Tape} → ReachedTape t → (chunk out last : List ℕ) (r : Result Listed Refusal) → least_room ≤ length out
+      → listed_out t r last ≡ listed t chunk out → TakesChunk t chunk out (listed_out t r last)
   pub tape_some : (bytes : List ℕ) → (text : List ℕ) × Listing bytes text

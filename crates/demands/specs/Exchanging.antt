@@ -1,7 +1,7 @@
 -- What is promised of one call of the point line's reader, and of its reply: a request that came is executed, or answered with a NACK; the reply
 -- is heard, and the master reads in it what it is.
 -- 01, The point reader and 'Master's side'; 02, L2. Assumes nothing.
-use Rattle.std.specs.Prelude.{◌≡◌, Bool, true, false, ℕ, ◌+◌, ◌≤◌, length}
+use Rattle.std.specs.Prelude.{◌≡◌, Bool, true, false, ℕ, ◌+◌, ◌≤◌, length, Ok}
 use mathlib.Core.List.{List, [], ◌∷◌, ◌++◌, Memᴰ}
 use Rattle.std.proofs.Math.Option.{some}
 use Rattle.link_spec.specs.declared.station.Station.TheVariants.{Point}
@@ -10,7 +10,6 @@ use Rattle.link_spec.specs.Limits.{most_data}
 use Rattle.link_spec.specs.Events.{FRAME, CHECK}
 use Rattle.link_spec.specs.Hearing.{Told, told_at, IsFresh, Hearing}
 use Rattle.request_spec.specs.declared.command.Command.{Command}
-use Rattle.request_spec.specs.declared.command.Acceptance.TheVariants.{Accepted}
 use Rattle.request_spec.specs.Acceptance.{Accepts}
 use Rattle.request_spec.specs.Replies.{Reply, NACK, sign, identifier_of, front_of}
 use Rattle.request_spec.specs.Reading.{has_read, reply_read}
@@ -35,12 +34,12 @@ module _ {alone : Bool} {h : History} {s : Reader} {held : List ℕ} (c : Call a
   -- It executed the request as this command: it sends the reply that the table has for the values by the writes and power-ons so far, and the
   -- session goes on with what the command did, and with it as the last one executed.
   pub record RequestExecuted (command : Command) : Type 0 where
-    pub asked : asks_for c.input ≡ Accepted command
+    pub asked : asks_for c.input ≡ Ok command
     pub done : Done c
     pub executed : is_executed h c.input ≡ true
     pub sends : bytes_sent c ≡ bytes_of c.input.content (some (reply_to h.value command c.input.header c.input.antenna))
     pub reply : IsAnswer (reply_to h.value command c.input.header c.input.antenna)
-    pub goes_on : ReaderSession alone c.answer.reader c.left.store (judged_history h c.input (Accepted command))
+    pub goes_on : ReaderSession alone c.answer.reader c.left.store (judged_history h c.input (Ok command))
 
   -- it changed neither the reader's state nor the store
   abbrev pub ChangesNothing : Type 0

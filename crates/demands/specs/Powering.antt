@@ -1,9 +1,9 @@
 -- What a power cut leaves of a reader, and what slow readers do not write, over every session of calls. 02, L2; 003, 'Параметры считывателя', the
 -- note **. `proofs/Laws/Powering` proves it. Assumes nothing.
-use Rattle.std.specs.Prelude.{◌≡◌, Bool, true, false, List, [], ◌∷◌, ◌++◌, ◌↔◌, ℕ, ◌≤◌}
+use Rattle.std.specs.Prelude.{◌≡◌, Bool, true, false, List, [], ◌∷◌, ◌++◌, ◌↔◌, ℕ, ◌≤◌, Result}
 use Rattle.std.proofs.Math.Option.{none}
-use Rattle.ground.specs.declared.refusal.Counted.{Counted}
-use Rattle.ground.specs.Refusals.{number, tally}
+use Rattle.ground.specs.declared.refusal.Refusal.{Refusal}
+use Rattle.ground.specs.Refusals.{tally}
 use Rattle.wire_spec.specs.Writing.{after}
 use Rattle.link_spec.specs.declared.station.Station.TheVariants.{Point}
 use Rattle.link_spec.specs.declared.receiver.Receiver.{Receiver}
@@ -14,11 +14,10 @@ use Rattle.request_spec.specs.declared.command.Command.{Command}
 use Rattle.request_spec.specs.Replies.{NACK}
 use Rattle.request_spec.specs.Requesting.{request_written}
 use Rattle.reader_spec.specs.declared.reader.Reader.{Reader}
-use Rattle.reader_spec.specs.declared.reader.Powered.{Powered}
 use Rattle.reader_spec.specs.Speeds.{WritesAbove}
 use Rattle.reader_spec.specs.Parameters.{value_of}
 use Rattle.reader_spec.specs.State.{State, state_of, BadState}
-use Rattle.reader_spec.specs.Answering.{PoweredOn, powering, powered_on}
+use Rattle.reader_spec.specs.Answering.{PoweredOn, powering, powered_on, answer_says}
 use Rattle.reader_spec.specs.Sessions.{History, powered_by, Call, bytes_sent, ReaderSession, made_fast}
 use Rattle.demands.specs.Exchanging.{Asks, RequestExecuted, HeardAndRead}
 
@@ -54,7 +53,7 @@ pub record ToldFrom (h k : History) : Type 0 where
 
 -- the writer of typed requests wrote this one
 pub record Typed (identifier code : ℕ) («data» : List ℕ) : Type 0 where
-  pub result : Counted
+  pub result : Result ℕ Refusal
   pub out : List ℕ
   pub left : List ℕ
   pub says : after result left ≡ request_written identifier code «data» out
@@ -80,10 +79,11 @@ pub record NeverAbove (s : Reader) (h : History) : Type 0 where
 
 pub record Request2 : Type 0 where
   -- a power-on of every good reader, and of every reader that calls lead to
-  pub powers : (s : Reader) → (BadState (state_of s) → ⊥) → (r : Powered) → powering r ≡ powered_on (state_of s) → PoweredFrom (state_of s) (powering r)
-  pub told : {alone : Bool} {s : Reader} {held : List ℕ} {h : History} → ReaderSession alone s held h → (r : Powered)
-      → powering r ≡ powered_on (state_of s)
-      → ToldFrom h (powered_by h (number r.refusal))
+  pub powers : (s : Reader) → (BadState (state_of s) → ⊥) → (r : Result Reader Refusal) → powering s r ≡ powered_on (state_of s)
+      → PoweredFrom (state_of s) (powering s r)
+  pub told : {alone : Bool} {s : Reader} {held : List ℕ} {h : History} → ReaderSession alone s held h → (r : Result Reader Refusal)
+      → powering s r ≡ powered_on (state_of s)
+      → ToldFrom h (powered_by h (powering s r).refusal)
   pub answers : {alone : Bool} {s : Reader} {held : List ℕ} {h : History} (se : ReaderSession alone s held h) (c : Call alone h s held)
       (identifier code : ℕ) («data» : List ℕ)
       → Asks c identifier code «data»
@@ -95,5 +95,5 @@ pub record Request2 : Type 0 where
   pub never : {alone : Bool} {s : Reader} {held : List ℕ} {h : History} (se : ReaderSession alone s held h) → made_fast se ≡ false → NeverAbove s h
   -- no call on a reader that calls lead to is refused 4; nor is a power-on, by `Demand2.powers`
   pub good : {alone : Bool} {s : Reader} {held : List ℕ} {h : History} → ReaderSession alone s held h → (c : Call alone h s held)
-      → number c.answer.refusal ≡ 4
+      → (answer_says s c.answer c.left).refusal ≡ 4
       → ⊥

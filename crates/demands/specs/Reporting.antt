@@ -1,15 +1,14 @@
 -- What the report of a tape promises, over every session of calls: that the numbers are exact, what bounds them, and how they agree with the
 -- listing. 02, L1. `proofs/Laws/Reporting` proves it. Assumes nothing.
-use Rattle.std.specs.Prelude.{◌≡◌, List, ◌++◌, ℕ, length}
+use Rattle.std.specs.Prelude.{◌≡◌, List, ◌++◌, ℕ, length, Result}
+use Rattle.ground.specs.declared.refusal.Refusal.{Refusal}
 use Rattle.ground.specs.declared.refusal.Refusal.TheVariants.{TapeTooLong}
-use Rattle.ground.specs.Refusals.{number}
 use Rattle.tape_spec.specs.declared.tape.Line.{Line}
 use Rattle.tape_spec.specs.Rows.{header_row, last_row}
 use Rattle.tape_spec.specs.Whole.{parts, Entry, entry_rows}
 use Rattle.tape_spec.specs.Frames.{Shows}
 use Rattle.tape_spec.specs.Sessions.{Listing}
 use Rattle.totals_spec.specs.declared.totals.Totals.{Totals}
-use Rattle.totals_spec.specs.declared.totals.Added.{Added}
 use Rattle.totals_spec.specs.Whole.{sums_over, line_report, Reported, no_report, report_of}
 use Rattle.totals_spec.specs.Adding.{added_out, added}
 use Rattle.totals_spec.specs.Sessions.{Reporting, RunsOver, part_of, Bounded, Ranked}
@@ -37,4 +36,5 @@ pub record Request1 : Type 0 where
   pub exact : {bytes : List ℕ} {out : Reported} → Reporting bytes out → (RunsOver bytes → ⊥) → Exact bytes out
   -- there is a session of every tape, and none of its chunks is refused
   pub some : (bytes : List ℕ) → (out : Reported) × Reporting bytes out
-  pub goes_on : {t : Totals} → ReachedTotals t → (chunk : List ℕ) (r : Added) → added_out r ≡ added t chunk → number r.refusal ≡ 0
+  pub goes_on : {t : Totals} → ReachedTotals t → (chunk : List ℕ) (r : Result Totals Refusal) → added_out t r ≡ added t chunk
+      → (added_out t r).refusal ≡ 0

@@ -1,5 +1,5 @@
 // What a request makes the log do.
-ghost use Rattle.std.specs.Prelude.{◌≡◌, ◌-◌};
+ghost use Rattle.std.specs.Prelude.{◌≡◌};
 ghost use Rattle.event_log_spec.specs.Doing.{unless_data, unless_none, doing as doing_of, waiting_after};
 
 use event_log_spec::{CLEAR, DELETE, Doing, READ, RESTORE};
@@ -15,25 +15,19 @@ const NOTHING: u8 = 4;
 pub(crate) fn doing(code: u8, data: &[u8], waiting: usize) -> Doing
     ensures { result ≡ doing_of code «data».now waiting }
 {
-    if code == READ {
-        return unless_data(data, unless_none(waiting, Doing::Read));
+    match code {
+        READ => unless_data(data, unless_none(waiting, Doing::Read)),
+        DELETE => unless_data(data, unless_none(waiting, Doing::Delete)),
+        RESTORE => unless_data(data, Doing::Restore),
+        CLEAR => unless_data(data, Doing::Clear),
+        _ => Doing::Nack(UNKNOWN),
     }
-    if code == DELETE {
-        return unless_data(data, unless_none(waiting, Doing::Delete));
-    }
-    if code == RESTORE {
-        return unless_data(data, Doing::Restore);
-    }
-    if code == CLEAR {
-        return unless_data(data, Doing::Clear);
-    }
-    Doing::Nack(UNKNOWN)
 }
 
 fn unless_data(data: &[u8], bare: Doing) -> Doing
     ensures { result ≡ unless_data «data».now bare }
 {
-    if data.len() == 0 {
+    if data.is_empty() {
         bare
     } else {
         Doing::Nack(DATA)
@@ -55,16 +49,9 @@ pub(crate) fn waiting_after(held: usize, waiting: usize, doing: Doing) -> usize
     ensures { result ≡ waiting_after held waiting doing }
 {
     match doing {
-        Doing::Read => waiting,
-        Doing::Delete => one_less(waiting),
+        Doing::Read | Doing::Nack(_) => waiting,
+        Doing::Delete => waiting.saturating_sub(1),
         Doing::Restore => held,
         Doing::Clear => 0,
-        Doing::Nack(_) => waiting,
     }
-}
-
-fn one_less(count: usize) -> usize
-    ensures { result ≡ count - 1 }
-{
-    if count == 0 { 0 } else { count - 1 }
 }

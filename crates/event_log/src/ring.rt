@@ -1,15 +1,11 @@
 // The ring of bodies: an empty log, a new entry by value, and the oldest that waits.
 ghost use Rattle.std.specs.Prelude.{◌≡◌, false, cond, eqb, ◌+◌, ◌%◌, ◌*◌, ◌≤◌, ◌<◌};
-ghost use Rattle.request_spec.specs.Header.{low_first};
-ghost use Rattle.event_log_spec.specs.Limits.{most_held, body_length, identifiers};
-ghost use Rattle.event_log_spec.specs.Log.{empty_log, bad_numbers, bad_log, identifier_before, oldest_waiting};
-ghost use Rattle.event_log_spec.specs.Appending.{one_more, with_entry, Appends};
+ghost use Rattle.event_log_spec.specs.Limits.{most_held, body_length};
+ghost use Rattle.event_log_spec.specs.Log.{empty_log, bad_log, identifier_before, oldest_waiting};
+ghost use Rattle.event_log_spec.specs.Appending.{one_more, with_entry, appended_as, appended_to};
 
-use event_log_spec::{Appended, BODY_LENGTH, ENTRY_LENGTH, Log, MOST_HELD, RING_LENGTH};
-use ground::{Refusal, put};
-
-// How many identifiers of 32 bits there are.
-const IDENTIFIERS: u64 = 0x1_0000_0000;
+use event_log_spec::{BODY_LENGTH, ENTRY_LENGTH, Log, MOST_HELD, RING_LENGTH};
+use ground::Refusal;
 
 // A log that holds nothing; its first entry has the identifier 0.
 pub fn empty_log() -> Log
@@ -25,32 +21,20 @@ pub fn empty_log() -> Log
 }
 
 // Whether more than 128 are held, more wait than are held, or the start is outside the ring.
-pub(crate) fn is_bad(start: usize, held: usize, waiting: usize) -> bool
-    ensures { result ≡ bad_numbers start held waiting }
+pub(crate) fn is_bad(log: &Log) -> bool
+    ensures { result ≡ bad_log log.now }
 {
-    if held > MOST_HELD {
-        return true;
-    }
-    if waiting > held {
-        return true;
-    }
-    start >= MOST_HELD
+    log.held > MOST_HELD || log.waiting > log.held || log.start >= MOST_HELD
 }
 
 // The log with a new entry, which waits; a full one drops the oldest. Refuses a bad log (BadState).
-pub(crate) fn appended(log: Log, body: [u8; BODY_LENGTH]) -> Appended
-    ensures { Appends log body result.refusal result.log }
+pub(crate) fn appended(log: Log, body: [u8; BODY_LENGTH]) -> Result<Log, Refusal>
+    ensures { appended_as log result ≡ appended_to log body }
 {
-    if is_bad(log.start, log.held, log.waiting) {
-        return Appended {
-            refusal: Refusal::BadState,
-            log,
-        };
+    if is_bad(&log) {
+        return Err(Refusal::BadState);
     }
-    Appended {
-        refusal: Refusal::None,
-        log: with_entry(log, body),
-    }
+    Ok(with_entry(log, body))
 }
 
 // The same of a good log.
@@ -58,15 +42,15 @@ fn with_entry(log: Log, body: [u8; BODY_LENGTH]) -> Log
     requires { bad_log log ≡ false }
     ensures { result ≡ with_entry log body }
 {
-    let held = log.held;
     let mut bodies = log.bodies;
-    put(&body, &mut bodies, body_start(log.start, held));
+    let at = body_start(log.start, log.held);
+    bodies[at..at + BODY_LENGTH].copy_from_slice(&body);
     Log {
         bodies,
-        start: start_after(log.start, held),
-        held: one_more(held),
+        start: start_after(log.start, log.held),
+        held: one_more(log.held),
         waiting: one_more(log.waiting),
-        next: after_next(log.next),
+        next: log.next.wrapping_add(1),
     }
 }
 
@@ -95,43 +79,19 @@ fn one_more(count: usize) -> usize
     requires { count ≤ most_held }
     ensures { result ≡ one_more count }
 {
-    if count == MOST_HELD {
-        MOST_HELD
-    } else {
-        count + 1
-    }
-}
-
-fn after_next(next: u32) -> u32
-    ensures { result ≡ (next + 1) % identifiers }
-{
-    if next == 0xFFFF_FFFF { 0 } else { next + 1 }
+    MOST_HELD.min(count + 1)
 }
 
 // The identifier and the body of the oldest waiting entry.
-pub(crate) fn oldest_waiting(log: Log) -> [u8; ENTRY_LENGTH]
-    requires { bad_log log ≡ false }
-    ensures { result ≡ oldest_waiting log }
+pub(crate) fn oldest_waiting(log: &Log) -> [u8; ENTRY_LENGTH]
+    requires { bad_log log.now ≡ false }
+    ensures { result ≡ oldest_waiting log.now }
 {
-    let identifier = low_first(identifier_before(log.next, log.waiting));
-    let bodies = log.bodies;
     let at = body_start(log.start, log.held - log.waiting);
     let mut entry = [0u8; ENTRY_LENGTH];
-    put(&identifier, &mut entry, 0);
-    put(&bodies[at..at + BODY_LENGTH], &mut entry, 4);
+    entry[..4].copy_from_slice(&identifier_before(log.next, log.waiting).to_le_bytes());
+    entry[4..].copy_from_slice(&log.bodies[at..at + BODY_LENGTH]);
     entry
-}
-
-// The four bytes of a number, low byte first.
-fn low_first(number: u32) -> [u8; 4]
-    ensures { result ≡ low_first number }
-{
-    [
-        (number % 256) as u8,
-        (number / 256 % 256) as u8,
-        (number / 65536 % 256) as u8,
-        (number / 16777216 % 256) as u8,
-    ]
 }
 
 // The identifier that is so many before the next one.
@@ -139,5 +99,5 @@ fn identifier_before(next: u32, count: usize) -> u32
     requires { count ≤ most_held }
     ensures { result ≡ identifier_before next count }
 {
-    ((next as u64 + (IDENTIFIERS - count as u64)) % IDENTIFIERS) as u32
+    next.wrapping_sub(count as u32)
 }

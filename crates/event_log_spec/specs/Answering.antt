@@ -1,9 +1,8 @@
 -- What the call that answers a receiver's event does, and what it leaves in the out buffer, for every input. 02, L3: replies go to address 00, and only
 -- to FRAME; refusals 4, 1, 5. 000, 'Кадр ответа считывателя компьютеру'; 01, Layout of a frame, for the addressed line. Assumes nothing.
-use Rattle.std.specs.Prelude.{ℕ, ◌≤◌, ◌<◌, ◌≡◌, Bool, true, false, cond, ◌&&◌, List, ltb, leb, length, get_or, drop}
+use Rattle.std.specs.Prelude.{ℕ, ◌≤◌, ◌<◌, ◌≡◌, Bool, true, false, cond, ◌&&◌, List, ltb, leb, length, get_or, drop, Result, Ok, Err}
 use Rattle.ground.specs.declared.refusal.Refusal.{Refusal}
 use Rattle.ground.specs.declared.refusal.Refusal.TheVariants.{NoRoom, BadState as BAD, BadRequest}
-use Rattle.ground.specs.declared.refusal.Counted.{Counted}
 use Rattle.wire_spec.specs.Image.{image}
 use Rattle.wire_spec.specs.Writing.{After, after, not_written, leaving, putting}
 use Rattle.ground.specs.Refusals.{counted}
@@ -12,6 +11,7 @@ use Rattle.link_spec.specs.Frame.{addressed_content}
 use Rattle.request_spec.specs.Replies.{Reply, command_in, data_in}
 use Rattle.event_log_spec.specs.declared.log.Log.{Log}
 use Rattle.event_log_spec.specs.declared.log.Doing.{Doing}
+use Rattle.event_log_spec.specs.declared.log.Answered.{Answered}
 use Rattle.event_log_spec.specs.Limits.{room, least_front, most_front}
 use Rattle.event_log_spec.specs.Log.{bad_log, BadLog}
 use Rattle.event_log_spec.specs.Doing.{doing, waiting_after, reply_of}
@@ -59,8 +59,13 @@ pub record Answering : Type 0 where
   pub after : After
   pub log : Log
 
-abbrev pub answering : Counted → Log → List ℕ → Answering
+abbrev pub answering : Result ℕ Refusal → Log → List ℕ → Answering
 answering r log left = record { after = after r left; log = log }
+
+-- the same of a call by value, which answers the log too; where it refuses, the log is as it was given
+abbrev pub answered_as : Log → Result Answered Refusal → List ℕ → Answering
+answered_as log (Ok a) left = answering (Ok a.count) a.log left
+answered_as log (Err why) left = answering (Err why) log left
 
 -- nothing but how many wait is changed
 abbrev pub with_waiting : Log → ℕ → Log
@@ -96,7 +101,7 @@ module _ (log : Log) (i : Input) (out : List ℕ) where
   answered_to = cond (bad_log log) (not_answered BAD) (cond (ltb (length out) room) (not_answered NoRoom) (heard_as (is_frame i.event)))
 
 -- the call's statement: to this log and input, with this buffer lent, it answers this, and leaves the log and the buffer so
-abbrev pub Answers : Log → Input → List ℕ → Counted → Log → List ℕ → Type 0
+abbrev pub Answers : Log → Input → List ℕ → Result ℕ Refusal → Log → List ℕ → Type 0
 Answers log i out r left out' = answering r left out' ≡ answered_to log i out
 
 -- ---- the same as a table

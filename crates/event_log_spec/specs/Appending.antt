@@ -1,6 +1,6 @@
 -- What the call that makes a new entry answers, for every log and body. 02, L3: an identifier, 0 first, goes up by one and wraps; a new event in a full
 -- log drops the oldest; 4 BadState. Assumes nothing.
-use Rattle.std.specs.Prelude.{ℕ, ◌+◌, ◌%◌, ◌≡◌, cond, List, eqb, ltb}
+use Rattle.std.specs.Prelude.{ℕ, ◌+◌, ◌%◌, ◌≡◌, cond, List, eqb, ltb, Result, Ok, Err}
 use Rattle.ground.specs.declared.refusal.Refusal.{Refusal}
 use Rattle.ground.specs.declared.refusal.Refusal.TheVariants.{BadState as BAD}
 use Rattle.ground.specs.Refusals.{number}
@@ -14,8 +14,14 @@ pub record Appending : Type 0 where
   pub refusal : ℕ
   pub log : Log
 
-abbrev pub appending : Refusal → Log → Appending
-appending refusal log = record { refusal = number refusal; log = log }
+abbrev pub appending : Result (Unit {0}) Refusal → Log → Appending
+appending (Ok done) log = record { refusal = 0; log = log }
+appending (Err why) log = record { refusal = number why; log = log }
+
+-- the same of a call by value, which answers the log that it makes; where it refuses, the log is as it was given
+abbrev pub appended_as : Log → Result Log Refusal → Appending
+appended_as log (Ok left) = appending (Ok tt) left
+appended_as log (Err why) = appending (Err why) log
 
 -- one more, of which the log holds the last 128
 abbrev pub one_more : ℕ → ℕ
@@ -33,13 +39,13 @@ with_entry log body =
     }
 
 unfoldable pub appended_to : Log → List ℕ → Appending
-appended_to log body = cond (bad_log log) (appending BAD log) (record { refusal = 0; log = with_entry log body })
+appended_to log body = cond (bad_log log) (appending (Err BAD) log) (record { refusal = 0; log = with_entry log body })
 
 -- the call's statement: to this log and body it answers this, and leaves the log so
-abbrev pub Appends : Log → List ℕ → Refusal → Log → Type 0
-Appends log body refusal left = appending refusal left ≡ appended_to log body
+abbrev pub Appends : Log → List ℕ → Result (Unit {0}) Refusal → Log → Type 0
+Appends log body r left = appending r left ≡ appended_to log body
 
 -- the same as a table. `Laws.Appending` proves that `appended_to` answers by it, and that it leaves it no other answer
 pub data AppendTable (log : Log) (body : List ℕ) : Appending → Type 0 where
-  refuses : BadLog log → AppendTable log body (appending BAD log)
+  refuses : BadLog log → AppendTable log body (appending (Err BAD) log)
   appends : (BadLog log → ⊥) → AppendTable log body (record { refusal = 0; log = with_entry log body })

@@ -1,9 +1,8 @@
 -- A log over many calls. What was made, and what became of it, is told from the calls' inputs alone; a session hands the log on from call to call,
 -- and no definition here looks into its record. 02, L3: over any sequence, each event made is exactly one of waiting, deleted but held, or
 -- dropped, told from the history. Assumes nothing.
-use Rattle.std.specs.Prelude.{ℕ, ◌%◌, ◌≡◌, Bool, cond, ◌&&◌, List, [], ◌∷◌, ◌++◌, eqb, leb, length, get_or, take}
+use Rattle.std.specs.Prelude.{ℕ, ◌%◌, ◌≡◌, Bool, cond, ◌&&◌, List, [], ◌∷◌, ◌++◌, eqb, leb, length, get_or, take, Result}
 use Rattle.ground.specs.declared.refusal.Refusal.{Refusal}
-use Rattle.ground.specs.declared.refusal.Counted.{Counted}
 use Rattle.ground.specs.Refusals.{tally}
 use Rattle.request_spec.specs.Header.{low_first}
 use Rattle.event_log_spec.specs.declared.log.Log.{Log}
@@ -55,16 +54,16 @@ entry_of h n = low_first (n % identifiers) ++ get_or h.bodies n []
 -- a call that makes an entry in this log, with any body
 pub record Append (log : Log) : Type 0 where
   pub body : List ℕ
-  pub refusal : Refusal
+  pub result : Result (Unit {0}) Refusal
   pub left : Log
   pub whole : length body ≡ body_length
-  pub says : Appends log body refusal left
+  pub says : Appends log body result left
 
 -- a call that answers an event, with any event, content and out buffer
 pub record Call (log : Log) : Type 0 where
   pub input : Input
   pub out : List ℕ
-  pub result : Counted
+  pub result : Result ℕ Refusal
   pub left : Log
   pub out_left : List ℕ
   pub says : Answers log input out result left out_left
@@ -76,7 +75,7 @@ module _ {log : Log} (c : Call log) where
 
   -- what it sends: the front of the out buffer
   abbrev pub bytes_sent : List ℕ
-  bytes_sent = take c.result.count c.out_left
+  bytes_sent = take (tally c.result).count c.out_left
 
 -- Calls in a row from an empty log, each with the log that the last one left.
 pub data LogSession : List Act → Log → Type 0 where

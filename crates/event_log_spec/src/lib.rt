@@ -5,7 +5,7 @@
 mod log;
 
 use link_spec::{LEAST_CONTENT, MOST_DATA};
-pub use log::{Answered, Appended, Doing, Log};
+pub use log::{Answered, Doing, Log};
 use wire_spec::MOST_IMAGE;
 
 // The log holds the last 128 entries, each with 8 bytes of its own.

@@ -1,7 +1,6 @@
 // The log between two calls, and what a call answers. An entry of the log is what the paper calls an event; here an event is what a receiver
 // tells.
 use crate::RING_LENGTH;
-use ground::{Counted, Refusal};
 
 // The bodies of the last entries in a ring, 8 bytes to a place, of which `start` is the oldest's; how many are held, how many of these, the
 // newest, wait to be read; and the identifier of the next entry, from which those of the held ones follow.
@@ -15,7 +14,7 @@ pub struct Log {
 }
 
 // What a request makes the log do: read the oldest waiting entry, delete it, let all that are held wait, or none; or answer with a NACK.
-#[derive(Clone, Copy)]
+#[derive(Clone, Copy, Debug, PartialEq, Eq)]
 pub enum Doing {
     Read,
     Delete,
@@ -24,16 +23,9 @@ pub enum Doing {
     Nack(u8),
 }
 
-// The log with a new entry; as it was where the call refused.
-#[derive(Clone, Copy)]
-pub struct Appended {
-    pub refusal: Refusal,
-    pub log: Log,
-}
-
-// What was written to the out buffer for one event, and the log for the next call.
+// How many bytes were written to the out buffer for one event, and the log for the next call.
 #[derive(Clone, Copy)]
 pub struct Answered {
-    pub counted: Counted,
+    pub count: usize,
     pub log: Log,
 }

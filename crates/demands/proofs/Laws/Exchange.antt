@@ -6,6 +6,7 @@ use mathlib.Core.List.{List, ◌++◌, Memᴰ}
 use Prim.Native.Nat.{ℕ, ◌+◌, ◌≤◌}
 use native.Mathlib.Omega.{arith}
 use lib.ListN.{length}
+use Rattle.std.specs.Prelude.{Ok}
 use Rattle.link_spec.specs.declared.station.Station.TheVariants.{Point}
 use Rattle.link_spec.specs.declared.receiver.Receiver.{Receiver}
 use Rattle.link_spec.specs.Limits.{most_data}
@@ -13,7 +14,6 @@ use Rattle.link_spec.specs.Events.{FRAME}
 use Rattle.link_spec.specs.Hearing.{Told, told_at, IsFresh, Hearing}
 use Rattle.link_spec.proofs.Laws.Listed.{point-image-listed}
 use Rattle.request_spec.specs.declared.command.Command.{Command}
-use Rattle.request_spec.specs.declared.command.Acceptance.TheVariants.{Accepted}
 use Rattle.request_spec.specs.Acceptance.{acceptance, Accepts}
 use Rattle.request_spec.specs.Replies.{Reply, NACK, sign, identifier_of, command_of, data_of, command_in, data_in, front_of}
 use Rattle.request_spec.specs.Reading.{has_read, reply_read}
@@ -60,7 +60,7 @@ pub exchange : {alone : Bool} {s : Reader} {held : List ℕ} {h : History} → R
 exchange {h = h} se c identifier code «data» before rest {command} asks x fr hearing =
     let sized = (session-agrees se).sized in
     let i = c.input in
-    let asked : acceptance code «data» ≡ Accepted command =
+    let asked : acceptance code «data» ≡ Ok command =
     ap (λ (l : List ℕ). acceptance (command_of l) (data_of l)) (sym asks.content) ∙ x.asked in
     heard-and-read identifier code «data» _ before rest (reply_to h.value command i.header i.antenna)
     (reply-fits h.value sized i.header i.antenna command c.whole asks.well.0)

@@ -1,11 +1,13 @@
 -- Calls cut at will go on: a receiver or a tape that the calls can reach is none that a call refuses, and each call takes what it should.
 -- Assumes nothing.
-use mathlib.Core.Path.{◌≡◌, refl, sym, ap, subst⁻¹, ◌∙◌}
+use mathlib.Core.Path.{◌≡◌, refl, ap, subst⁻¹, ◌∙◌}
 use mathlib.Core.Bool.{false}
 use mathlib.Core.List.{List, [], ◌∷◌}
 use Prim.Native.Nat.{ℕ, ◌≤◌, ◌<◌}
 use native.Mathlib.Omega.{arith}
 use lib.ListN.{length, take}
+use Rattle.std.specs.Prelude.{Result}
+use Rattle.ground.specs.declared.refusal.Refusal.{Refusal}
 use Rattle.link_spec.specs.declared.station.Station.{Station}
 use Rattle.link_spec.specs.declared.receiver.Receiver.{Receiver}
 use Rattle.link_spec.specs.declared.receiver.Heard.{Heard}
@@ -28,19 +30,19 @@ reached-good (going.fresh fr) = fresh-good fr
 reached-good (going.after {s} was piece r says) =
     ap (λ (said : Said). bad_receiver said.receiver) says ∙ stays-good s piece (reached-good was)
 
-pub receiver-goes-on : {station : Station} {s : Receiver} → ReachedReceiver station s → (piece : List ℕ) (r : Heard) → saying r ≡ received s piece
-    → TakesPiece s piece r
+pub receiver-goes-on : {station : Station} {s : Receiver} → ReachedReceiver station s → (piece : List ℕ) (r : Result Heard Refusal) → saying s r ≡ received s piece
+    → TakesPiece s piece (saying s r)
 receiver-goes-on {s = s} was piece r says =
     let good = reached-good was in
     let t = received-takes s piece good in
-    let n = ap (λ (said : Said). said.taken) says in
-    record {
-      fine = ap (λ (said : Said). said.refusal) says ∙ refused-only s piece ∙ rw good refl;
-      most = omega (arith, n, t.most);
-      some = λ any. omega (arith, n, t.some any);
-      all = λ quiet. omega (arith, n, t.all (ap (λ (said : Said). happened said.event) (sym says) ∙ ap happened quiet));
-      just = ap (λ (k : ℕ). received s (take k piece)) n ∙ received-prefix s piece good ∙ sym says;
-    }
+    subst⁻¹ (TakesPiece s piece) says
+    (record {
+      fine = refused-only s piece ∙ rw good refl;
+      most = t.most;
+      some = t.some;
+      all = λ quiet. t.all (ap happened quiet);
+      just = received-prefix s piece good;
+    })
 
 -- ---- a tape
 
@@ -54,20 +56,20 @@ reached-few (going.fresh is) = omega (arith, ap (λ (t : Tape). t.records) is)
 reached-few (going.after {t} was chunk out last r says) =
     subst⁻¹ (λ (d : ListedOut). d.tape.records ≤ most_records) says (listed-within t chunk out (reached-few was)).records
 
-pub tape-goes-on : {t : Tape} → ReachedTape t → (chunk out last : List ℕ) (r : Listed) → least_room ≤ length out
-    → listed_out r last ≡ listed t chunk out
-    → TakesChunk t chunk out r
+pub tape-goes-on : {t : Tape} → ReachedTape t → (chunk out last : List ℕ) (r : Result Listed Refusal) → least_room ≤ length out
+    → listed_out t r last ≡ listed t chunk out
+    → TakesChunk t chunk out (listed_out t r last)
 tape-goes-on {t = t} was chunk out last r roomy says =
     let fine = reached-fine was in
     let within = listed-within t chunk out (reached-few was) in
-    record {
-      fine = ap (λ (d : ListedOut). d.refusal) says ∙ ap (λ (d : ListedOut). d.refusal) (lists-chunk t chunk out fine roomy);
-      most = subst⁻¹ (λ (d : ListedOut). d.taken ≤ length chunk) says within.taken;
-      within = subst⁻¹ (λ (d : ListedOut). d.written ≤ length out) says within.written;
-      some = λ any more. of chunk any says more;
-    }
+    subst⁻¹ (TakesChunk t chunk out) says
+    (record {
+      fine = ap (λ (d : ListedOut). d.refusal) (lists-chunk t chunk out fine roomy);
+      most = within.taken;
+      within = within.written;
+      some = λ any more. takes chunk any more;
+    })
   where
-    of : (chunk : List ℕ) → 0 < length chunk → listed_out r last ≡ listed t chunk out → is_over t.next ≡ false → 0 < r.taken
-    of [] any says more = absurd (omega arith)
-    of (b ∷ bs) any says more =
-        subst⁻¹ (λ (d : ListedOut). 0 < d.taken) says (listed-some t b bs out (reached-fine was) roomy more)
+    takes : (chunk : List ℕ) → 0 < length chunk → is_over t.next ≡ false → 0 < (listed t chunk out).taken
+    takes [] any more = absurd (omega arith)
+    takes (b ∷ bs) any more = listed-some t b bs out (reached-fine was) roomy more

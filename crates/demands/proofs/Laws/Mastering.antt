@@ -8,12 +8,12 @@ use native.Mathlib.Omega.{arith}
 use lib.Dec.{eqb}
 use lib.ListN.{length}
 use borrow.Author.Tests.{eq-eqb}
+use Rattle.std.specs.Prelude.{Ok}
 use Rattle.request_spec.specs.declared.parameter.Parameter.{Parameter}
 use Rattle.request_spec.specs.declared.command.Card.{Card}
 use Rattle.request_spec.specs.declared.command.Card.TheVariants.{Marin, Hid, Motorola}
 use Rattle.request_spec.specs.declared.command.Command.{Command}
 use Rattle.request_spec.specs.declared.command.Command.TheVariants as Command
-use Rattle.request_spec.specs.declared.command.Acceptance.TheVariants.{Accepted}
 use Rattle.request_spec.specs.Limits.{header_length}
 use Rattle.request_spec.specs.Parameters.{length_of}
 use Rattle.request_spec.specs.Acceptance as table
@@ -31,7 +31,7 @@ module _ (value : Parameter → List ℕ) (sized : (p : Parameter) → length (v
   abbrev Reads : ℕ → List ℕ → Reply → Type 0
   Reads code «data» reply = reply_read identifier code «data» (front_of identifier code reply) ≡ has_read reply
 
-  reads-card : (code : ℕ) (card : Card) → acceptance code [] ≡ Accepted (Command.Card card) → eqb code sign ≡ false → eqb code 0x01 ≡ false
+  reads-card : (code : ℕ) (card : Card) → acceptance code [] ≡ Ok (Command.Card card) → eqb code sign ≡ false → eqb code 0x01 ≡ false
       → Reads code [] (reply_to value (Command.Card card) header antenna)
   reads-card code card asked plain other =
       replies-card value header antenna (Reads code []) card (reads-due identifier code [] (Command.Card card) asked antenna plain other)

@@ -6,7 +6,8 @@ use mathlib.Core.Bool.{Bool, true, false, true≢false}
 use mathlib.Core.List.{List, ◌++◌}
 use Prim.Native.Nat.{ℕ}
 use native.Mathlib.Omega.{arith}
-use Rattle.ground.specs.Refusals.{number}
+use Rattle.std.specs.Prelude.{Result}
+use Rattle.ground.specs.declared.refusal.Refusal.{Refusal}
 use Rattle.wire_spec.specs.Writing.{After}
 use Rattle.link_spec.specs.Hearing.{Hearing}
 use Rattle.request_spec.specs.declared.parameter.Parameter.{Parameter}
@@ -18,12 +19,11 @@ use Rattle.request_spec.proofs.Laws.Acceptance.{accepts}
 use Rattle.request_spec.proofs.Laws.Requesting.{written-asks}
 use Rattle.reader_spec.specs.declared.reader.Parameters.{Parameters}
 use Rattle.reader_spec.specs.declared.reader.Reader.{Reader}
-use Rattle.reader_spec.specs.declared.reader.Powered.{Powered}
 use Rattle.reader_spec.specs.Speeds.{has_speed, powered_speed}
 use Rattle.reader_spec.specs.Parameters.{value_of, after_power}
 use Rattle.reader_spec.specs.State.{state_of, BadState}
 use Rattle.reader_spec.specs.Replies.{reply_image}
-use Rattle.reader_spec.specs.Answering.{powering, powered_on, Answered}
+use Rattle.reader_spec.specs.Answering.{powering, powered_on, answer_says, Answered}
 use Rattle.reader_spec.specs.Sessions.{History, powered_value, powered_by, Call, bytes_sent, ReaderSession, made_fast}
 use Rattle.reader_spec.proofs.Laws.Speeds.{has_within, slow-within, speed-stays, speed-falls, powered-slow, above-row}
 use Rattle.reader_spec.proofs.Laws.Parameters.{value-powered}
@@ -60,7 +60,8 @@ values-left ps fast has =
       cell = refl;
     }
 
-powered-from : (s : Reader) → (BadState (state_of s) → ⊥) → (r : Powered) → powering r ≡ powered_on (state_of s) → PoweredFrom (state_of s) (powering r)
+powered-from : (s : Reader) → (BadState (state_of s) → ⊥) → (r : Result Reader Refusal) → powering s r ≡ powered_on (state_of s)
+    → PoweredFrom (state_of s) (powering s r)
 powered-from s good r says =
     let fine = no_row (state_of s) good in
     let left : value_of (after_power s.parameters) ≡ (λ (p : Parameter). powered_value p (value_of s.parameters p)) =
@@ -73,9 +74,9 @@ powered-from s good r says =
       forgets = refl;
     })
 
-told-from : {alone : Bool} {s : Reader} {held : List ℕ} {h : History} → ReaderSession alone s held h → (r : Powered)
-    → powering r ≡ powered_on (state_of s)
-    → ToldFrom h (powered_by h (number r.refusal))
+told-from : {alone : Bool} {s : Reader} {held : List ℕ} {h : History} → ReaderSession alone s held h → (r : Result Reader Refusal)
+    → powering s r ≡ powered_on (state_of s)
+    → ToldFrom h (powered_by h (powering s r).refusal)
 told-from {s = s} {h = h} se r says =
     let a = session-agrees se in
     subst⁻¹ (λ (n : ℕ). ToldFrom h (powered_by h n)) (power-fine se r says)
@@ -126,7 +127,7 @@ slow-never {s = s} se slow =
     }
 
 never-bad : {alone : Bool} {s : Reader} {held : List ℕ} {h : History} → ReaderSession alone s held h → (c : Call alone h s held)
-    → number c.answer.refusal ≡ 4
+    → (answer_says s c.answer c.left).refusal ≡ 4
     → ⊥
 never-bad {s = s} se c is =
     good-state (session-good se) (four-only (state_of s) c.input c.lent (sym (ap (λ (a : Answered). a.refusal) c.says) ∙ is))

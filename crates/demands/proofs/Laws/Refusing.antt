@@ -7,6 +7,7 @@ use mathlib.Core.Option.{none}
 use Prim.Native.Nat.{ℕ, ◌-◌}
 use lib.Dec.{ltb, eqb}
 use lib.ListN.{length, get_or}
+use Rattle.std.specs.Prelude.{Result, Ok, Err}
 use Rattle.ground.specs.declared.refusal.Refusal.{Refusal}
 use Rattle.ground.specs.Refusals.{Tally, AnswersOnly}
 use Rattle.ground.specs.Laying.{Ended, put}
@@ -24,8 +25,7 @@ use Rattle.link_spec.specs.Events.{NONE}
 use Rattle.link_spec.specs.Receiving.{fresh_receiver, fresh_made, bad_receiver, not_heard, heard, Said, received, BadReceiver}
 use Rattle.link_spec.proofs.Laws.Receiving.{bad-is, refused-only}
 use Rattle.request_spec.specs.declared.command.Command.{Command}
-use Rattle.request_spec.specs.declared.command.Acceptance.{Acceptance}
-use Rattle.request_spec.specs.declared.command.Acceptance.TheVariants.{Accepted, Faulty}
+use Rattle.request_spec.specs.declared.command.Fault.{Fault}
 use Rattle.request_spec.specs.Acceptance.{acceptance, is_accepted}
 use Rattle.request_spec.specs.Replies.{data_of, ack_byte}
 use Rattle.request_spec.specs.Requesting.{request_written}
@@ -134,10 +134,10 @@ module _ (identifier code : ℕ) («data» reply : List ℕ) where
       (λ nack. cond-elim Meaningless (is_nack (get_or bytes 0 0)) (λ known refused. absurd (refused refl)) (λ unknown refused. refl)))
       (λ more refused. refl)
 
-  by-meaningless : (k : Acceptance) → Meaningless (read_by identifier code reply k)
+  by-meaningless : (k : Result Command Fault) → Meaningless (read_by identifier code reply k)
   unfolding read_as
-  by-meaningless (Faulty fault) = λ refused. refl
-  by-meaningless (Accepted command) =
+  by-meaningless (Err fault) = λ refused. refl
+  by-meaningless (Ok command) =
       cond-elim Meaningless (wrong_id identifier reply) (λ wrong refused. refl)
       (λ own. cond-elim Meaningless (wrong_command code reply) (λ wrong refused. refl)
       (λ right. cond-elim Meaningless (is_sign reply) (λ sign. sign-meaningless command (data_of reply))

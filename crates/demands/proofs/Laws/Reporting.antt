@@ -3,11 +3,11 @@
 use mathlib.Core.Path.{◌≡◌, ap, subst⁻¹, ◌∙◌}
 use mathlib.Core.List.{List}
 use Prim.Native.Nat.{ℕ}
-use Rattle.ground.specs.Refusals.{number}
+use Rattle.std.specs.Prelude.{Result}
+use Rattle.ground.specs.declared.refusal.Refusal.{Refusal}
 use Rattle.tape_spec.specs.Whole.{parts, fresh_receivers, entries}
 use Rattle.tape_spec.proofs.Laws.Frames.{frames-shown}
 use Rattle.totals_spec.specs.declared.totals.Totals.{Totals}
-use Rattle.totals_spec.specs.declared.totals.Added.{Added}
 use Rattle.totals_spec.specs.Adding.{AddedOut, added_out, added}
 use Rattle.totals_spec.proofs.Laws.Adding.{Fine, fine-good, fresh-fine, totals-fine, adds}
 use Rattle.totals_spec.proofs.Laws.Sessions.{report-is, report-some, too_long, report-rest, report-part, report-bounded, report-ranked, report-agrees}
@@ -21,7 +21,8 @@ reached-fine (going.after {t} was chunk r says) =
     let fine = reached-fine was in
     subst⁻¹ Fine (ap (λ (d : AddedOut). d.totals) (says ∙ adds t chunk (fine-good fine))) (totals-fine fine chunk)
 
-totals-go-on : {t : Totals} → ReachedTotals t → (chunk : List ℕ) (r : Added) → added_out r ≡ added t chunk → number r.refusal ≡ 0
+totals-go-on : {t : Totals} → ReachedTotals t → (chunk : List ℕ) (r : Result Totals Refusal) → added_out t r ≡ added t chunk
+    → (added_out t r).refusal ≡ 0
 totals-go-on {t} was chunk r says = ap (λ (d : AddedOut). d.refusal) (says ∙ adds t chunk (fine-good (reached-fine was)))
 
 pub request-1 : Request1

@@ -9,12 +9,11 @@ use Prim.Native.Nat.{ℕ, ◌≤◌}
 use lib.Dec.{eqb}
 use lib.ListN.{length}
 use borrow.Author.Tests.{eqb-true}
+use Rattle.std.specs.Prelude.{Result, Ok, Err}
 use Rattle.ground.proofs.Laws.Choice.{by-test}
 use Rattle.link_spec.specs.Limits.{most_data}
 use Rattle.link_spec.specs.Events.{Name, NONE, FRAME, CHECK, SHORT, LONG, PAIR, ADDR}
 use Rattle.request_spec.specs.declared.command.Command.{Command}
-use Rattle.request_spec.specs.declared.command.Acceptance.{Acceptance}
-use Rattle.request_spec.specs.declared.command.Acceptance.TheVariants.{Accepted, Faulty}
 use Rattle.request_spec.specs.declared.command.Fault.{Fault}
 use Rattle.request_spec.specs.declared.command.Fault.TheVariants.{UnknownCode, BadData}
 use Rattle.request_spec.specs.Acceptance.{is_known, acceptance, is_accepted, nack_of, Accepts}
@@ -68,10 +67,10 @@ module _ {alone : Bool} {s : Reader} {held : List ℕ} {h : History} (se : Reade
       ∙ ap (λ (a : Answered). a.refusal) (does-steps (state_of s) c.input c.lent (session-good se) asks.well (rw frame front))
       ∙ steps-fine (state_of s) c.input c.lent (asking c.input.event)
 
-  executes : {k : Acceptance} → served h.fast code «data» ≡ k → is_executed h c.input ≡ is_accepted k
+  executes : {k : Result Command Fault} → served h.fast code «data» ≡ k → is_executed h c.input ≡ is_accepted k
   executes asked = rw (frame, new, served-is ∙ asked) refl
 
-  judges : {k : Acceptance} → served h.fast code «data» ≡ k → length «data» ≤ most_data
+  judges : {k : Result Command Fault} → served h.fast code «data» ≡ k → length «data» ≤ most_data
       → answer_says c.answer c.left ≡ judged (state_of s) c.input c.lent k
   judges {k} asked short =
       let framed = call-framed se c (done short) frame in
@@ -92,7 +91,7 @@ module _ {alone : Bool} {s : Reader} {held : List ℕ} {h : History} (se : Reade
         goes_on = rw (frame, new, served-is ∙ does) at (session-on se c fine);
       }
 
-  faulty-nacked : (fault : Fault) → served h.fast code «data» ≡ Faulty fault → length «data» ≤ most_data → RequestNacked c (nack_of fault)
+  faulty-nacked : (fault : Fault) → served h.fast code «data» ≡ Err fault → length «data» ≤ most_data → RequestNacked c (nack_of fault)
   faulty-nacked fault asked short =
       let fine = done short in
       let judged = judges asked short in
@@ -123,10 +122,10 @@ module _ {alone : Bool} {s : Reader} {held : List ℕ} {h : History} (se : Reade
       → RequestNacked c 3
   data-nacked other row never = faulty-nacked BadData (ap (served_as h.fast «data») (bad-data (acceptance code «data») refl))
     where
-      bad-data : (k : Acceptance) → acceptance code «data» ≡ k → acceptance code «data» ≡ Faulty BadData
-      bad-data (Accepted command) is = absurd (never command (accepts code «data» is))
-      bad-data (Faulty BadData) is = is
-      bad-data (Faulty UnknownCode) is = absurd (true≢false (sym (row-known row) ∙ unknown-only code «data» is))
+      bad-data : (k : Result Command Fault) → acceptance code «data» ≡ k → acceptance code «data» ≡ Err BadData
+      bad-data (Ok command) is = absurd (never command (accepts code «data» is))
+      bad-data (Err BadData) is = is
+      bad-data (Err UnknownCode) is = absurd (true≢false (sym (row-known row) ∙ unknown-only code «data» is))
 
 -- a call of a session on another event
 module _ {alone : Bool} {s : Reader} {held : List ℕ} {h : History} (se : ReaderSession alone s held h) (c : Call alone h s held) (done : Done c) where

@@ -5,6 +5,7 @@ use mathlib.Core.Bool.{Bool, false}
 use mathlib.Core.List.{List}
 use Prim.Native.Nat.{ℕ}
 use Rattle.ground.specs.declared.refusal.Refusal.TheVariants.{BadState as BAD}
+use Rattle.std.specs.Prelude.{Err}
 use Rattle.ground.specs.Refusals.{Keeps}
 use Rattle.ground.proofs.Laws.Choice.{cond-elim, by-test}
 use Rattle.event_log_spec.specs.declared.log.Log.{Log}
@@ -12,7 +13,7 @@ use Rattle.event_log_spec.specs.Log.{bad_log, BadLog}
 use Rattle.event_log_spec.specs.Appending.{Appending, appending, with_entry, appended_to, AppendTable, refuses, appends}
 use Rattle.event_log_spec.proofs.Laws.Log.{bad-log, bad-row, good-log, no_row}
 
-pub refuses-bad : {log : Log} (body : List ℕ) → BadLog log → appended_to log body ≡ appending BAD log
+pub refuses-bad : {log : Log} (body : List ℕ) → BadLog log → appended_to log body ≡ appending (Err BAD) log
 unfolding appended_to
 refuses-bad body bad = rw (bad-log bad)
 

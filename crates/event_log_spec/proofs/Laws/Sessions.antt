@@ -1,25 +1,27 @@
 -- A log over many calls: what is told agrees with its record, no call is refused with 4, and a FRAME is answered by what the log does.
 -- Assumes nothing.
-use mathlib.Core.Path.{◌≡◌, ap, subst⁻¹, ◌∙◌}
+use mathlib.Core.Path.{◌≡◌, sym, ap, subst⁻¹, ◌∙◌}
 use mathlib.Core.Bool.{true, false}
 use mathlib.Core.List.{List, [], ◌∷◌}
 use Prim.Native.Nat.{ℕ, ◌≤◌}
 use lib.ListN.{length, take, drop}
 use lib.Seq.{take-append_seam}
-use Rattle.ground.specs.Refusals.{number, tally}
+use Rattle.std.specs.Prelude.{Ok}
+use Rattle.ground.specs.Refusals.{tally}
 use Rattle.wire_spec.specs.Image.{image}
 use Rattle.wire_spec.specs.Writing.{After, after, putting}
 use Rattle.link_spec.specs.Events.{FRAME}
 use Rattle.event_log_spec.specs.declared.log.Log.{Log}
 use Rattle.event_log_spec.specs.Limits.{room}
 use Rattle.event_log_spec.specs.Log.{bad_log}
-use Rattle.event_log_spec.specs.Appending.{Appending, with_entry}
+use Rattle.event_log_spec.specs.Appending.{with_entry}
 use Rattle.event_log_spec.specs.Doing.{doing, reply_of}
 use Rattle.event_log_spec.specs.Answering.{identifier_in, code_in, data_after, is_front, reply_content, Answering}
 use Rattle.event_log_spec.specs.Sessions.{Act, History, made, given, told_after, history_of, Append, Call, Done, bytes_sent, LogSession, begins, appends, answers}
 use Rattle.event_log_spec.proofs.Laws.Log.{no_row}
 use Rattle.event_log_spec.proofs.Laws.Appending.{appends-to}
 use Rattle.event_log_spec.proofs.Laws.Answering.{stays-silent, does-what}
+use Rattle.event_log_spec.proofs.Laws.Unique.{same-appended}
 use Rattle.event_log_spec.proofs.Laws.Agreeing.{Agrees, agrees-empty, agrees-made}
 use Rattle.event_log_spec.proofs.Laws.Giving.{good_none, agrees-given}
 
@@ -28,10 +30,8 @@ pub agrees-good : {h : History} {log : Log} → Agrees h log → bad_log log ≡
 agrees-good {log} a = no_row log (good_none a.good)
 
 -- what an entry's call answers: no refusal, and the log with it
-pub append-is : {log : Log} (a : Append log) → bad_log log ≡ false → (number a.refusal ≡ 0) × (a.left ≡ with_entry log a.body)
-append-is {log} a good =
-    let is = a.says ∙ appends-to log a.body good in
-    (ap (λ (x : Appending). x.refusal) is, ap (λ (x : Appending). x.log) is)
+pub append-is : {log : Log} (a : Append log) → bad_log log ≡ false → (a.result ≡ Ok tt) × (a.left ≡ with_entry log a.body)
+append-is {log} a good = same-appended log a.body a.says (sym (appends-to log a.body good))
 
 pub session-agrees : {acts : List Act} {log : Log} → LogSession acts log → Agrees (history_of acts) log
 unfolding history_of

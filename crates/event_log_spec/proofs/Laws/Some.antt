@@ -1,15 +1,14 @@
 -- Every call has a result that its statement allows, so a session can be continued by any call, and there is one of every sequence of acts.
 -- Assumes nothing.
-use mathlib.Core.Path.{◌≡◌, refl, sym}
+use mathlib.Core.Path.{◌≡◌, refl}
 use mathlib.Core.Bool.{Bool}
 use mathlib.Core.List.{List, [], ◌∷◌}
 use Prim.Native.Nat.{ℕ}
 use lib.Dec.{ltb}
 use lib.ListN.{length}
+use Rattle.std.specs.Prelude.{Result, Ok, Err}
 use Rattle.ground.specs.declared.refusal.Refusal.{Refusal}
-use Rattle.ground.specs.declared.refusal.Refusal.TheVariants.{None, NoRoom, BadState as BAD, BadRequest}
-use Rattle.ground.specs.declared.refusal.Counted.{Counted}
-use Rattle.ground.specs.Refusals.{number}
+use Rattle.ground.specs.declared.refusal.Refusal.TheVariants.{NoRoom, BadState as BAD, BadRequest}
 use Rattle.ground.proofs.Laws.Choice.{cond-elim}
 use Rattle.event_log_spec.specs.declared.log.Log.{Log}
 use Rattle.event_log_spec.specs.Limits.{body_length, room}
@@ -20,39 +19,33 @@ use Rattle.event_log_spec.specs.Sessions.{Act, made, given, Append, Call, LogSes
 
 -- a result that says this
 record AppendResult (x : Appending) : Type 0 where
-  refusal : Refusal
+  result : Result (Unit {0}) Refusal
   left : Log
-  says : appending refusal left ≡ x
+  says : appending result left ≡ x
 
 append-result : (log : Log) (body : List ℕ) → AppendResult (appended_to log body)
 unfolding appended_to
 append-result log body =
-    cond-elim AppendResult (bad_log log) (λ bad. record { refusal = BAD; left = log; says = refl }) (λ good. record { refusal = None; left = _; says = refl })
+    cond-elim AppendResult (bad_log log) (λ bad. record { result = Err BAD; left = log; says = refl }) (λ good. record { result = Ok tt; left = _; says = refl })
 
 pub append-some : {log : Log} (body : List ℕ) → length body ≡ body_length → (a : Append log) × (a.body ≡ body)
 append-some {log} body whole =
     let r = append-result log body in
-    (record { body = body; refusal = r.refusal; left = r.left; whole = whole; says = r.says }, refl)
+    (record { body = body; result = r.result; left = r.left; whole = whole; says = r.says }, refl)
 
 record CallResult (x : Answering) : Type 0 where
-  result : Counted
+  result : Result ℕ Refusal
   says : answering result x.log x.after.out ≡ x
-
-result-with : (x : Answering) (why : Refusal) → number why ≡ x.after.tally.refusal → CallResult x
-result-with x why is =
-    record {
-      result = record { refusal = why; count = x.after.tally.count };
-      says = λ i. record { after = record { tally = record { refusal = is i; count = x.after.tally.count }; out = x.after.out }; log = x.log };
-    }
 
 call-result : (log : Log) (i : Input) (out : List ℕ) → CallResult (answered_to log i out)
 unfolding answered_to framed
 call-result log i out =
-    cond-elim CallResult (bad_log log) (λ bad. result-with _ BAD refl)
-    (λ good. cond-elim CallResult (ltb (length out) room) (λ few. result-with _ NoRoom refl)
+    cond-elim CallResult (bad_log log) (λ bad. record { result = Err BAD; says = refl })
+    (λ good. cond-elim CallResult (ltb (length out) room) (λ few. record { result = Err NoRoom; says = refl })
     (λ enough. cond-elim CallResult (is_frame i.event)
-    (λ is. cond-elim CallResult (is_front i.content) (λ fit. result-with _ None refl) (λ bad. result-with _ BadRequest refl))
-    (λ other. result-with _ None refl)))
+    (λ is. cond-elim CallResult (is_front i.content) (λ fit. record { result = Ok (framed log i out).after.tally.count; says = refl })
+    (λ bad. record { result = Err BadRequest; says = refl }))
+    (λ other. record { result = Ok 0; says = refl })))
 
 pub call-some : {log : Log} (i : Input) (out : List ℕ) → (c : Call log) × (c.input ≡ i) × (c.out ≡ out)
 call-some {log} i out =
