@@ -26,29 +26,12 @@ pub fn check_length(check: Check) -> usize
 pub fn is_right(check: Check, content: &[u8]) -> bool
     ensures { result ≡ is_right check content.now }
 {
-    let length = check_length(check);
-    if content.len() < length {
+    let Some(front) = content.len().checked_sub(check_length(check)) else {
         return false;
-    }
-    stands_behind(check, content, content.len() - length)
-}
-
-// Whether the bytes of `content` after the first `front` are the check of those.
-fn stands_behind(check: Check, content: &[u8], front: usize) -> bool
-    requires { front + check_length check ≡ length content.now }
-    ensures { result ≡ is_right check content.now }
-{
+    };
+    let (front, came) = content.split_at(front);
     match check {
-        Check::Fcs => {
-            let value = fcs(&content[..front]);
-            if content[front] as u16 != value % 256 {
-                return false;
-            }
-            content[front + 1] as u16 == value / 256
-        }
-        Check::Sum => {
-            let value = sum(&content[..front]);
-            content[front] == value
-        }
+        Check::Fcs => came == fcs(front).to_le_bytes().as_slice(),
+        Check::Sum => came == [sum(front)].as_slice(),
     }
 }

@@ -10,11 +10,9 @@ pub fn residue(bytes: &[u8]) -> u16
 {
     let table = TABLE;
     let mut register: u16 = 0xFFFF;
-    let mut i: usize = 0;
-    while i < bytes.len() {
-        let k = ((bytes[i] as u16 ^ register) % 256) as usize;
+    for &byte in bytes {
+        let k = ((byte as u16 ^ register) % 256) as usize;
         register = table[k] ^ register / 256;
-        i += 1;
     }
     register
 }

@@ -6,11 +6,9 @@ ghost use Rattle.checks.specs.Sum.{sum as sum_of};
 pub fn sum(bytes: &[u8]) -> u8
     ensures { result ≡ sum_of bytes.now }
 {
-    let mut total: u32 = 0;
-    let mut i: usize = 0;
-    while i < bytes.len() {
-        total = (total + bytes[i] as u32) % 256;
-        i += 1;
+    let mut total: u8 = 0;
+    for &byte in bytes {
+        total = total.wrapping_add(byte);
     }
-    total as u8
+    total
 }

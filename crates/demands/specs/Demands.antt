@@ -35,7 +35,7 @@ use Rattle.reader_spec.specs.Asking.{asking}
 use Rattle.reader_spec.specs.Replies.{reply_image}
 use Rattle.reader_spec.specs.Sending.{Buffers}
 use Rattle.reader_spec.specs.Answering.{powering, powered_on, Input}
-use Rattle.reader_spec.specs.Sessions.{History, begun, is_executed, asks_for, next_history, StoreKept, Call, Done, bytes_sent, ReaderSession, Idle, Unwritten, left_of}
+use Rattle.reader_spec.specs.Sessions.{History, begun, is_executed, asks_for, next_history, StoreKept, Call, reader_after, Done, bytes_sent, ReaderSession, Idle, Unwritten, left_of}
 use Rattle.reader_spec.specs.Promises.{Repeated}
 use Rattle.tape_spec.specs.declared.tape.Tape.{Tape}
 use Rattle.tape_spec.specs.declared.tape.Listed.{Listed}
@@ -97,7 +97,7 @@ pub record Demand2 : Type 0 where
   -- what was written to a parameter is what a later read sends, until another write of it or, for a speed above 7, a power-on, which leaves 3
   pub values : {alone with_power : Bool} {s t : Reader} {held kept : List ℕ} {h k : History} {p : Parameter} → ReaderSession alone s held h
       → (w : Call alone h s held) → Done w → is_executed h w.input ≡ true → asks_for w.input ≡ Ok (Write p)
-      → Unwritten alone p w.answer.reader w.left.store (next_history h w.input) t kept k with_power
+      → Unwritten alone p (reader_after w) w.left.store (next_history h w.input) t kept k with_power
       → (r : Call alone k t kept) → Done r → is_executed k r.input ≡ true → asks_for r.input ≡ Ok (Read p)
       → bytes_sent r ≡ reply_image (identifier_of r.input.content) (command_of r.input.content)
       (DATA (left_of with_power p (drop 1 (data_of w.input.content))))
@@ -105,7 +105,7 @@ pub record Demand2 : Type 0 where
   -- command, in a call that is not refused, gets the stored reply and changes nothing
   pub repeats : {s t : Reader} {held kept : List ℕ} {h : History} → ReaderSession false s held h
       → (first : Call false h s held) → Done first → is_executed h first.input ≡ true
-      → Idle true (next_history h first.input) first.answer.reader first.left.store t kept
+      → Idle true (next_history h first.input) (reader_after first) first.left.store t kept
       → (again : Call true (next_history h first.input) t kept) → Done again → asking again.input.event ≡ Right
       → identifier_of again.input.content ≡ identifier_of first.input.content
       → command_of again.input.content ≡ command_of first.input.content

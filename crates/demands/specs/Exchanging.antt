@@ -19,8 +19,8 @@ use Rattle.reader_spec.specs.Speeds.{WritesAbove}
 use Rattle.reader_spec.specs.State.{state_of}
 use Rattle.reader_spec.specs.Asking.{asking}
 use Rattle.reader_spec.specs.Replies.{IsAnswer, reply_image, reply_to}
-use Rattle.reader_spec.specs.Answering.{LentWell, CarriesContent, Unfit, answer_says}
-use Rattle.reader_spec.specs.Sessions.{Execution, History, bytes_of, repeats_last, asks_for, judged_history, to_send, is_repeat, is_executed, Call, Done, bytes_sent, ReaderSession}
+use Rattle.reader_spec.specs.Answering.{LentWell, CarriesContent, Unfit}
+use Rattle.reader_spec.specs.Sessions.{Execution, History, bytes_of, repeats_last, asks_for, judged_history, to_send, is_repeat, is_executed, Call, reader_after, outcome, Done, bytes_sent, ReaderSession}
 use Rattle.reader_spec.specs.Promises.{Unchanged, Recalls}
 
 module _ {alone : Bool} {h : History} {s : Reader} {held : List ℕ} (c : Call alone h s held) where
@@ -39,11 +39,11 @@ module _ {alone : Bool} {h : History} {s : Reader} {held : List ℕ} (c : Call a
     pub executed : is_executed h c.input ≡ true
     pub sends : bytes_sent c ≡ bytes_of c.input.content (some (reply_to h.value command c.input.header c.input.antenna))
     pub reply : IsAnswer (reply_to h.value command c.input.header c.input.antenna)
-    pub goes_on : ReaderSession alone c.answer.reader c.left.store (judged_history h c.input (Ok command))
+    pub goes_on : ReaderSession alone (reader_after c) c.left.store (judged_history h c.input (Ok command))
 
   -- it changed neither the reader's state nor the store
   abbrev pub ChangesNothing : Type 0
-  ChangesNothing = Unchanged (state_of s) c.lent (answer_says c.answer c.left)
+  ChangesNothing = Unchanged (state_of s) c.lent (outcome c)
 
   -- it answered the request with the NACK of this number, and nothing else
   pub record RequestNacked (n : ℕ) : Type 0 where

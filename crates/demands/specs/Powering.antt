@@ -17,8 +17,8 @@ use Rattle.reader_spec.specs.declared.reader.Reader.{Reader}
 use Rattle.reader_spec.specs.Speeds.{WritesAbove}
 use Rattle.reader_spec.specs.Parameters.{value_of}
 use Rattle.reader_spec.specs.State.{State, state_of, BadState}
-use Rattle.reader_spec.specs.Answering.{PoweredOn, powering, powered_on, answer_says}
-use Rattle.reader_spec.specs.Sessions.{History, powered_by, Call, bytes_sent, ReaderSession, made_fast}
+use Rattle.reader_spec.specs.Answering.{PoweredOn, powering, powered_on}
+use Rattle.reader_spec.specs.Sessions.{History, powered_by, Call, outcome, bytes_sent, ReaderSession, made_fast}
 use Rattle.demands.specs.Exchanging.{Asks, RequestExecuted, HeardAndRead}
 
 -- a speed that every reader has, and keeps: 3..7
@@ -95,5 +95,5 @@ pub record Request2 : Type 0 where
   pub never : {alone : Bool} {s : Reader} {held : List ℕ} {h : History} (se : ReaderSession alone s held h) → made_fast se ≡ false → NeverAbove s h
   -- no call on a reader that calls lead to is refused 4; nor is a power-on, by `Demand2.powers`
   pub good : {alone : Bool} {s : Reader} {held : List ℕ} {h : History} → ReaderSession alone s held h → (c : Call alone h s held)
-      → (answer_says s c.answer c.left).refusal ≡ 4
+      → (outcome c).refusal ≡ 4
       → ⊥

@@ -1,6 +1,6 @@
 -- What the call that makes a new entry answers, for every log and body. 02, L3: an identifier, 0 first, goes up by one and wraps; a new event in a full
 -- log drops the oldest; 4 BadState. Assumes nothing.
-use Rattle.std.specs.Prelude.{ℕ, ◌+◌, ◌%◌, ◌≡◌, cond, List, eqb, ltb, Result, Ok, Err}
+use Rattle.std.specs.Prelude.{ℕ, ◌+◌, ◌%◌, ◌≡◌, cond, List, eqb, Result, Ok, Err}
 use Rattle.ground.specs.declared.refusal.Refusal.{Refusal}
 use Rattle.ground.specs.declared.refusal.Refusal.TheVariants.{BadState as BAD}
 use Rattle.ground.specs.Refusals.{number}

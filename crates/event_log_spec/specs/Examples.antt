@@ -1,6 +1,6 @@
 -- Worked examples of the log, as rows of one table. The claim is that each holds; `proofs/Laws/Examples` proves it. 02, L3; 000, commands 10 to 13.
 -- Assumes nothing.
-use Rattle.std.specs.Prelude.{ℕ, ◌≡◌, List, [], ◌∷◌, ◌++◌, length, take, replicate}
+use Rattle.std.specs.Prelude.{ℕ, ◌≡◌, List, [], ◌∷◌, ◌++◌, take, replicate}
 use Rattle.link_spec.specs.Events.{Name, NONE, FRAME, CHECK, SHORT, LONG, PAIR, ADDR}
 use Rattle.event_log_spec.specs.declared.log.Log.{Log}
 use Rattle.event_log_spec.specs.Limits.{most_held, body_length, ring_length, room, least_front, most_front}

@@ -6,7 +6,7 @@ use Rattle.ground.specs.declared.refusal.Refusal.{Refusal}
 use Rattle.ground.specs.Refusals.{tally}
 use Rattle.request_spec.specs.Header.{low_first}
 use Rattle.event_log_spec.specs.declared.log.Log.{Log}
-use Rattle.event_log_spec.specs.Limits.{body_length, identifiers, room}
+use Rattle.event_log_spec.specs.Limits.{body_length, identifiers}
 use Rattle.event_log_spec.specs.Log.{empty_log}
 use Rattle.event_log_spec.specs.Appending.{Appends}
 use Rattle.event_log_spec.specs.Answering.{Input, code_in, is_frame, Answers}

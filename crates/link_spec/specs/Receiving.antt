@@ -1,6 +1,6 @@
 -- What the receiver's calls answer, for every input.
 -- 01, How the receiver moves, and Refusal numbers, rows 3 and 4. Assumes nothing.
-use Rattle.std.specs.Prelude.{ℕ, ◌+◌, ◌<◌, ◌≡◌, Bool, true, false, cond, ◌||◌, not, Option, Some, Result, Ok, Err, List, [], ◌∷◌, ltb, length, take, set, replicate}
+use Rattle.std.specs.Prelude.{ℕ, ◌+◌, ◌<◌, ◌≡◌, Bool, true, false, cond, ◌||◌, not, Option, Some, Result, Ok, Err, List, [], ◌∷◌, ltb, take, set, replicate}
 use Rattle.ground.specs.declared.refusal.Refusal.{Refusal}
 use Rattle.ground.specs.declared.refusal.Refusal.TheVariants.{BadAddress, BadState}
 use Rattle.ground.specs.Refusals.{number}

@@ -1,9 +1,10 @@
 // Lists a tape: its bytes on standard input, the listing on standard output.
 #![tactic(auto)]
 
-ghost use Rattle.std.specs.Prelude.{◌≤◌};
+ghost use Rattle.std.specs.Prelude.{◌≤◌, IfOk};
 ghost use Rattle.tape_spec.specs.Limits.{most_records};
 
+use progress::Progress;
 use std::io::{Error, Read, Write};
 use std::process::ExitCode;
 use tape::{Tape, fresh_tape, is_over, list, write_header, write_last};
@@ -20,20 +21,6 @@ enum Failure {
     Refused,
 }
 
-// Where the listing stands: a block of this many bytes is listed and the next one is read, nothing further of the tape is, or nothing can be.
-#[derive(Clone, Copy)]
-enum Course {
-    Reading(usize),
-    Over,
-    Failed(Failure),
-}
-
-#[derive(Clone, Copy)]
-struct Stage {
-    tape: Tape,
-    course: Course,
-}
-
 // Says what failed, and why.
 fn tell(rt: &HostRuntime, failure: Failure) {
     match failure {
@@ -45,120 +32,69 @@ fn tell(rt: &HostRuntime, failure: Failure) {
     }
 }
 
-// Writes all of `text`, or says why it cannot.
-fn print(rt: &HostRuntime, text: &[u8]) -> bool {
-    match rt.stdout().write_all(text) {
-        Ok(()) => true,
-        Err(error) => {
-            tell(rt, Failure::Write(error));
-            false
-        }
-    }
+// Writes all of `text`.
+fn print(rt: &HostRuntime, text: &[u8]) -> Result<(), Failure> {
+    rt.stdout().write_all(text).map_err(Failure::Write)
 }
 
-// Lists all of a chunk that is read; `text` is where the rows are put together.
-fn list_chunk(rt: &HostRuntime, tape: Tape, chunk: &[u8], text: &mut [u8]) -> Stage
+// Lists a chunk that is read, up to where the tape is over; `text` is where the rows are put together.
+fn list_chunk(rt: &HostRuntime, mut tape: Tape, chunk: &[u8], text: &mut [u8]) -> Result<Tape, Failure>
     requires { tape.records ≤ most_records }
-    ensures { result.tape.records ≤ most_records }
+    ensures { IfOk result (λ t. t.records ≤ most_records) }
 {
-    let mut tape = tape;
-    let mut taken: usize = 0;
-    while taken < chunk.len() {
-        let listed = list(tape, &chunk[taken..], text);
+    let mut taken = 0;
+    while taken < chunk.len() && !is_over(tape) {
+        let listed = list(tape, &chunk[taken..], text).map_err(|_| Failure::Refused)?;
+        print(rt, &text[..listed.written])?;
         tape = listed.tape;
-        let written = listed.written;
-        if let Err(error) = rt.stdout().write_all(&text[..written]) {
-            return Stage {
-                tape,
-                course: Course::Failed(Failure::Write(error)),
-            };
-        }
-        if listed.taken == 0 {
-            return halted(tape);
-        }
         taken += listed.taken;
     }
-    let course = if is_over(tape) {
-        Course::Over
-    } else {
-        Course::Reading(taken)
-    };
-    Stage { tape, course }
-}
-
-// After a call that took nothing: nothing further is read. Were it refused instead, the listing would not be whole.
-fn halted(tape: Tape) -> Stage
-    requires { tape.records ≤ most_records }
-    ensures { result.tape.records ≤ most_records }
-{
-    let course = if is_over(tape) {
-        Course::Over
-    } else {
-        Course::Failed(Failure::Refused)
-    };
-    Stage { tape, course }
-}
-
-// Reads a block of the tape and lists it. Without one the tape is over.
-fn list_block(rt: &HostRuntime, tape: Tape, block: &mut [u8], text: &mut [u8]) -> Stage
-    requires { tape.records ≤ most_records }
-    ensures { result.tape.records ≤ most_records }
-{
-    match rt.stdin().read(block) {
-        Err(error) => Stage {
-            tape,
-            course: Course::Failed(Failure::Read(error)),
-        },
-        Ok(0) => Stage {
-            tape,
-            course: Course::Over,
-        },
-        Ok(count) => list_chunk(rt, tape, &block[..count], text),
-    }
+    Ok(tape)
 }
 
 // No tape is read further than 2^33 - 1 bytes, and a block has one at least.
 const MOST_BLOCKS: u64 = 0x2_0000_0000;
 
-// Lists a whole tape; whether all was read and written, with the last row.
-fn list_tape(rt: &HostRuntime, text: &mut [u8]) -> bool {
+// Lists all blocks of a tape; `text` is where the rows are put together.
+fn list_blocks(rt: &HostRuntime, progress: &mut Progress, text: &mut [u8]) -> Result<Tape, Failure>
+    ensures { IfOk result (λ t. t.records ≤ most_records) }
+{
     let mut block = [0u8; BLOCK];
     let mut tape = fresh_tape();
-    let mut progress = begin(rt, !is_terminal(rt, Stream::Output));
-    let mut turns = MOST_BLOCKS;
-    while turns > 0 {
-        turns -= 1;
-        let stage = list_block(rt, tape, &mut block, text);
-        tape = stage.tape;
-        let course = stage.course;
-        match course {
-            Course::Reading(count) => progress = show(rt, progress, count),
-            Course::Over => turns = 0,
-            Course::Failed(failure) => {
-                hide(rt, progress);
-                tell(rt, failure);
-                return false;
-            }
+    for _ in 0..MOST_BLOCKS {
+        let count = rt.stdin().read(&mut block).map_err(Failure::Read)?;
+        tape = list_chunk(rt, tape, &block[..count], text)?;
+        if count == 0 || is_over(tape) {
+            break;
         }
+        *progress = show(rt, *progress, count);
     }
+    Ok(tape)
+}
+
+// Lists a whole tape, with the last row. The notice is taken away before anything else is said.
+fn list_tape(rt: &HostRuntime, text: &mut [u8]) -> Result<(), Failure> {
+    let mut progress = begin(rt, !is_terminal(rt, Stream::Output));
+    let listed = list_blocks(rt, &mut progress, text);
     hide(rt, progress);
-    let last = write_last(tape, text);
-    let end = last.end;
+    let end = write_last(listed?, text).map_err(|_| Failure::Refused)?;
     print(rt, &text[..end])
 }
 
-// Lists standard input; whether all was read and written.
-fn run(rt: &HostRuntime) -> bool {
+// Lists standard input.
+fn run(rt: &HostRuntime) -> Result<(), Failure> {
     let mut text = [0u8; BLOCK];
-    let header = write_header(&mut text);
-    let end = header.end;
-    print(rt, &text[..end]) && list_tape(rt, &mut text)
+    let end = write_header(&mut text).map_err(|_| Failure::Refused)?;
+    print(rt, &text[..end])?;
+    list_tape(rt, &mut text)
 }
 
 fn main(rt: HostRuntime) -> ExitCode {
-    if run(&rt) {
-        ExitCode::SUCCESS
-    } else {
-        ExitCode::FAILURE
+    match run(&rt) {
+        Ok(()) => ExitCode::SUCCESS,
+        Err(failure) => {
+            tell(&rt, failure);
+            ExitCode::FAILURE
+        }
     }
 }

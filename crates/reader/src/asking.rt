@@ -6,16 +6,12 @@ ghost use Rattle.reader_spec.specs.Asking.{asking};
 use link::Event;
 use reader_spec::Asking;
 
-pub(crate) fn asked_by(event: Event) -> Asking
+pub(crate) fn asked_by(event: Option<Event>) -> Asking
     ensures { result ≡ asking (named event) }
 {
     match event {
-        Event::None => Asking::Nothing,
-        Event::Frame => Asking::Right,
-        Event::Check => Asking::Wrong,
-        Event::Short => Asking::Nothing,
-        Event::Long => Asking::Nothing,
-        Event::Pair => Asking::Nothing,
-        Event::Addr => Asking::Nothing,
+        Some(Event::Frame) => Asking::Right,
+        Some(Event::Check) => Asking::Wrong,
+        Some(Event::Short | Event::Long | Event::Pair | Event::Addr) | None => Asking::Nothing,
     }
 }

@@ -17,8 +17,5 @@ pub fn to_send<'a>(buffer: Buffer, length: usize, store: &'a [u8], out: &'a [u8]
 fn part(bytes: &[u8], length: usize) -> &[u8]
     ensures { result.now ≡ front_part length bytes.now }
 {
-    if length > bytes.len() {
-        return &bytes[..0];
-    }
-    &bytes[..length]
+    bytes.get(..length).unwrap_or_default()
 }

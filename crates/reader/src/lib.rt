@@ -11,7 +11,7 @@ mod values;
 
 pub use buffer::to_send;
 pub use reader_spec::{
-    Answer, Buffer, LEAST_FRONT, MOST_FRONT, Memory, Parameters, Powered, ROOM, Reader,
+    Answer, Buffer, LEAST_FRONT, Last, MOST_FRONT, Parameters, ROOM, Reader,
 };
 pub use reader_state::{fresh_reader, power_on};
 pub use steps::answer;

@@ -2,26 +2,14 @@
 ghost use Rattle.std.specs.Prelude.{◌≡◌};
 ghost use Rattle.reader_spec.specs.State.{remembered, find as find_of};
 
-use reader_spec::{Memory, Repeat};
+use reader_spec::Last;
 
-// What a frame with this identifier and command is.
-pub(crate) fn find(memory: Memory, identifier: u8, command: u8) -> Repeat
+// The length of the stored reply that a frame with this identifier and command asks for again, if it is a repeat.
+pub(crate) fn find(memory: Option<Last>, identifier: u8, command: u8) -> Option<usize>
     ensures { result ≡ find_of (remembered memory) identifier command }
 {
     match memory {
-        Memory::None => Repeat::New,
-        Memory::Last {
-            identifier: last,
-            command: executed,
-            length,
-        } => {
-            if last != identifier {
-                return Repeat::New;
-            }
-            if executed != command {
-                return Repeat::New;
-            }
-            Repeat::Stored(length)
-        }
+        Some(last) if last.identifier == identifier && last.command == command => Some(last.length),
+        _ => None,
     }
 }

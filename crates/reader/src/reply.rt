@@ -23,8 +23,7 @@ fn write(identifier: u8, command: u8, data: &[u8], out: &mut [u8]) -> usize
     requires { (length «data».now ≤ most_data) × (room ≤ length out.old) }
     ensures { Fills result out.new (point_content identifier command «data».now) out.old }
 {
-    let written = write_point(identifier, command, data, out);
-    written.count
+    write_point(identifier, command, data, out).unwrap()
 }
 
 pub(crate) fn write_nack(identifier: u8, number: u8, out: &mut [u8]) -> usize
@@ -73,13 +72,7 @@ fn write_value(
 {
     match parameter {
         Parameter::Speed => write(identifier, code, &[parameters.speed], out),
-        Parameter::Settings => {
-            let settings = parameters.settings;
-            write(identifier, code, &settings, out)
-        }
-        Parameter::Cell => {
-            let cell = parameters.cell;
-            write(identifier, code, &cell, out)
-        }
+        Parameter::Settings => write(identifier, code, &parameters.settings, out),
+        Parameter::Cell => write(identifier, code, &parameters.cell, out),
     }
 }

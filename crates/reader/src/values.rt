@@ -4,43 +4,20 @@ ghost use Rattle.request_spec.specs.Parameters.{is_value_of};
 ghost use Rattle.request_spec.specs.Acceptance.{FitsCommand};
 ghost use Rattle.reader_spec.specs.Parameters.{with_value, done_to};
 
-use ground::put;
 use reader_spec::Parameters;
-use request::{CELL_LENGTH, Command, Parameter, SETTINGS_LENGTH};
+use request::{Command, Parameter};
 
 // The parameters with this value of one of them.
-fn with_value(parameters: Parameters, parameter: Parameter, value: &[u8]) -> Parameters
+fn with_value(mut parameters: Parameters, parameter: Parameter, value: &[u8]) -> Parameters
     requires { is_value_of parameter value.now ≡ true }
     ensures { result ≡ with_value parameters parameter value.now }
 {
-    let speed = parameters.speed;
-    let settings = parameters.settings;
-    let cell = parameters.cell;
     match parameter {
-        Parameter::Speed => Parameters {
-            speed: value[0],
-            settings,
-            cell,
-        },
-        Parameter::Settings => {
-            let mut settings = [0u8; SETTINGS_LENGTH];
-            put(value, &mut settings, 0);
-            Parameters {
-                speed,
-                settings,
-                cell,
-            }
-        }
-        Parameter::Cell => {
-            let mut cell = [0u8; CELL_LENGTH];
-            put(value, &mut cell, 0);
-            Parameters {
-                speed,
-                settings,
-                cell,
-            }
-        }
+        Parameter::Speed => parameters.speed = value[0],
+        Parameter::Settings => parameters.settings.copy_from_slice(value),
+        Parameter::Cell => parameters.cell.copy_from_slice(value),
     }
+    parameters
 }
 
 // The parameters after a command that came with this data.
@@ -50,8 +27,6 @@ pub(crate) fn after_command(parameters: Parameters, command: Command, data: &[u8
 {
     match command {
         Command::Write(parameter) => with_value(parameters, parameter, &data[1..]),
-        Command::Header => parameters,
-        Command::Read(_) => parameters,
-        Command::Card(_) => parameters,
+        Command::Header | Command::Read(_) | Command::Card(_) => parameters,
     }
 }

@@ -1,6 +1,6 @@
 -- What the reader's calls answer, and what they leave in the two buffers, for every input.
 -- 01, The point reader, by the numbers of its steps, and Refusal numbers, rows 1, 2, 4 and 5; 02, L2. Assumes nothing.
-use Rattle.std.specs.Prelude.{ℕ, ◌≤◌, ◌<◌, ◌≡◌, Bool, true, cond, ◌&&◌, ◌||◌, List, [], ◌∷◌, ltb, leb, length}
+use Rattle.std.specs.Prelude.{ℕ, ◌≤◌, ◌<◌, ◌≡◌, Bool, true, cond, ◌&&◌, ◌||◌, List, [], ◌∷◌, ltb, leb, length, Option, None, Some, Result, Ok, Err}
 use Rattle.std.proofs.Math.Option.{none, some}
 use Rattle.ground.specs.declared.refusal.Refusal.{Refusal}
 use Rattle.ground.specs.declared.refusal.Refusal.TheVariants.{NoRoom, TooLong, BadState as BAD, BadRequest}
@@ -9,17 +9,14 @@ use Rattle.ground.specs.Laying.{onto}
 use Rattle.link_spec.specs.Events.{Name, FRAME, CHECK}
 use Rattle.request_spec.specs.declared.parameter.Parameter.TheVariants.{Speed}
 use Rattle.request_spec.specs.declared.command.Command.{Command}
-use Rattle.request_spec.specs.declared.command.Acceptance.{Acceptance}
-use Rattle.request_spec.specs.declared.command.Acceptance.TheVariants.{Accepted, Faulty}
+use Rattle.request_spec.specs.declared.command.Fault.{Fault}
 use Rattle.request_spec.specs.Limits.{most_antenna}
 use Rattle.request_spec.specs.Acceptance.{nack_of}
 use Rattle.request_spec.specs.Replies.{NACK, sign, identifier_of, command_of, data_of, wrong_check}
 use Rattle.reader_spec.specs.declared.reader.Asking.{Asking}
 use Rattle.reader_spec.specs.declared.reader.Asking.TheVariants.{Nothing, Wrong, Right}
-use Rattle.reader_spec.specs.declared.reader.Repeat.{Repeat}
-use Rattle.reader_spec.specs.declared.reader.Repeat.TheVariants.{New, Stored}
+use Rattle.reader_spec.specs.declared.reader.Buffer.TheVariants.{Out}
 use Rattle.reader_spec.specs.declared.reader.Reader.{Reader}
-use Rattle.reader_spec.specs.declared.reader.Powered.{Powered}
 use Rattle.reader_spec.specs.declared.reader.Answer.{Answer}
 use Rattle.reader_spec.specs.Limits.{room, least_front, most_front}
 use Rattle.reader_spec.specs.Speeds.{served}
@@ -29,6 +26,11 @@ use Rattle.reader_spec.specs.Asking.{asking}
 use Rattle.reader_spec.specs.Replies.{reply_image, reply_to}
 use Rattle.reader_spec.specs.Sending.{BufferName, OUT, STORE, buffer_named, Buffers, buffers_of}
 
+-- the number of a call's refusal; 0 is no refusal
+abbrev pub refusal_of : {A : Type 0} → Result A Refusal → ℕ
+refusal_of (Ok answer) = 0
+refusal_of (Err why) = number why
+
 -- ---- power-on
 
 -- a call's result in the paper's words
@@ -36,8 +38,13 @@ pub record PoweredOn : Type 0 where
   pub refusal : ℕ
   pub state : State
 
-abbrev pub powering : Powered → PoweredOn
-powering r = record { refusal = number r.refusal; state = state_of r.reader }
+-- the reader after the call; as it was where it refused
+abbrev pub powered_reader : Reader → Result Reader Refusal → Reader
+powered_reader reader (Ok after) = after
+powered_reader reader (Err why) = reader
+
+abbrev pub powering : Reader → Result Reader Refusal → PoweredOn
+powering reader r = record { refusal = refusal_of r; state = state_of (powered_reader reader r) }
 
 -- A power-on forgets the last command; a speed of 8..10 becomes 3, and all else stays: 3..7, both other parameters, whether the reader is fast. It
 -- refuses with 4 only.
@@ -75,9 +82,15 @@ pub record Answered : Type 0 where
   pub length : ℕ
   pub left : Buffers
 
-abbrev pub answer_says : Answer → Buffers → Answered
-answer_says r left =
-    record { refusal = number r.refusal; state = state_of r.reader; buffer = buffer_named r.buffer; length = r.length; left = left }
+-- the answer; where the call refused, the reader as it was and an empty part of out
+abbrev pub answer_of : Reader → Result Answer Refusal → Answer
+answer_of reader (Ok answer) = answer
+answer_of reader (Err why) = record { reader = reader; buffer = Out; length = 0 }
+
+abbrev pub answer_says : Reader → Result Answer Refusal → Buffers → Answered
+answer_says reader r left =
+    let a = answer_of reader r in
+    record { refusal = refusal_of r; state = state_of a.reader; buffer = buffer_named a.buffer; length = a.length; left = left }
 
 -- no refusal: this state from now on, and the first bytes of one buffer to send
 abbrev pub sending : State → BufferName → ℕ → Buffers → Answered
@@ -108,14 +121,14 @@ module _ (s : State) (i : Input) (lent : Buffers) where
       OUT (length (reply_bytes command)) (buffers_of (onto (reply_bytes command) lent.store) (onto (reply_bytes command) lent.out))
 
   -- 4. unknown code: NACK 2. 5. data not acceptable, or a speed that this reader has not: NACK 3
-  abbrev pub judged : Acceptance → Answered
-  judged (Accepted command) = executed command
-  judged (Faulty fault) = nacked s (identifier_of i.content) (nack_of fault) lent
+  abbrev pub judged : Result Command Fault → Answered
+  judged (Ok command) = executed command
+  judged (Err fault) = nacked s (identifier_of i.content) (nack_of fault) lent
 
   -- 3. the stored reply again; data is ignored, nothing changes
-  abbrev pub recalled : Repeat → Answered
-  recalled (Stored length) = sending s STORE length lent
-  recalled New = judged (served s.fast (command_of i.content) (data_of i.content))
+  abbrev pub recalled : Option ℕ → Answered
+  recalled (Some length) = sending s STORE length lent
+  recalled None = judged (served s.fast (command_of i.content) (data_of i.content))
 
   -- of a FRAME, by its identifier, command and data part
   unfoldable pub framed : Answered
@@ -147,8 +160,8 @@ answered s i lent =
     (cond (ltb most_antenna (length i.antenna)) (not_answered TooLong s lent) (admitted s i lent)))
 
 -- the call's statement: to this reader, with this input and these buffers lent, it answers this and leaves the buffers so
-abbrev pub Answers : Reader → Input → Buffers → Answer → Buffers → Type 0
-Answers reader i lent r left = answer_says r left ≡ answered (state_of reader) i lent
+abbrev pub Answers : Reader → Input → Buffers → Result Answer Refusal → Buffers → Type 0
+Answers reader i lent r left = answer_says reader r left ≡ answered (state_of reader) i lent
 
 -- ---- the same as a table
 

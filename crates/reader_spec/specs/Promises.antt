@@ -6,7 +6,7 @@ use Rattle.reader_spec.specs.declared.reader.Reader.{Reader}
 use Rattle.reader_spec.specs.State.{State, state_of}
 use Rattle.reader_spec.specs.Sending.{Buffers}
 use Rattle.reader_spec.specs.Answering.{Answered}
-use Rattle.reader_spec.specs.Sessions.{History, remembers, Call, bytes_sent, ReaderSession, left_of}
+use Rattle.reader_spec.specs.Sessions.{History, remembers, Call, reader_after, bytes_sent, ReaderSession, left_of}
 
 -- after calls that execute nothing the reader's state is the same, what is remembered of the store too if nobody else wrote to it, and the
 -- same is told
@@ -22,14 +22,14 @@ pub record Unchanged (s : State) (lent : Buffers) (a : Answered) : Type 0 where
 
 -- a repeat changes no state and no byte of a buffer, and sends what the remembered bytes of the store hold at that moment
 pub record Recalls {alone : Bool} {h : History} {s : Reader} {held : List ℕ} (c : Call alone h s held) : Type 0 where
-  pub state : state_of c.answer.reader ≡ state_of s
+  pub state : state_of (reader_after c) ≡ state_of s
   pub buffers : c.left ≡ c.lent
   pub sends : bytes_sent c ≡ take (remembers h.last) c.lent.store
 
 -- a call that repeats another: it changes no state and no byte of a buffer, and sends what was sent when the command was executed
 pub record Repeated {a b : Bool} {h k : History} {s t : Reader} {held kept : List ℕ} (first : Call a h s held) (again : Call b k t kept)
     : Type 0 where
-  pub state : state_of again.answer.reader ≡ state_of first.answer.reader
+  pub state : state_of (reader_after again) ≡ state_of (reader_after first)
   pub buffers : again.left ≡ again.lent
   pub sends : bytes_sent again ≡ bytes_sent first
 

@@ -2,15 +2,14 @@
 -- session hands the reader on from call to call, and no definition here looks into its record. Demand 2, of repeats: a request that repeats the
 -- identifier and command of the last one executed since power-on gets the stored reply and executes nothing. 01, The point reader; 02, L2.
 -- Assumes nothing.
-use Rattle.std.specs.Prelude.{ℕ, ◌≡◌, Bool, true, false, cond, ◌&&◌, not, List, [], ◌∷◌, eqb, length, get_or, drop, take}
+use Rattle.std.specs.Prelude.{ℕ, ◌≡◌, Bool, true, false, cond, ◌&&◌, not, List, [], ◌∷◌, eqb, length, get_or, drop, take, Result, Ok, Err}
 use Rattle.std.proofs.Math.Option.{Option, none, some, map}
-use Rattle.ground.specs.Refusals.{number}
+use Rattle.ground.specs.declared.refusal.Refusal.{Refusal}
 use Rattle.request_spec.specs.declared.parameter.Parameter.{Parameter}
 use Rattle.request_spec.specs.declared.parameter.Parameter.TheVariants.{Speed, Settings, Cell}
 use Rattle.request_spec.specs.declared.command.Command.{Command}
 use Rattle.request_spec.specs.declared.command.Command.TheVariants.{Header, Write, Read, Card}
-use Rattle.request_spec.specs.declared.command.Acceptance.{Acceptance}
-use Rattle.request_spec.specs.declared.command.Acceptance.TheVariants.{Accepted, Faulty}
+use Rattle.request_spec.specs.declared.command.Fault.{Fault}
 use Rattle.request_spec.specs.Limits.{header_length}
 use Rattle.request_spec.specs.Parameters.{parameter_code}
 use Rattle.request_spec.specs.Acceptance.{acceptance, nack_of, is_accepted}
@@ -18,14 +17,13 @@ use Rattle.request_spec.specs.Replies.{Reply, NACK, identifier_of, command_of, d
 use Rattle.reader_spec.specs.declared.reader.Asking.{Asking}
 use Rattle.reader_spec.specs.declared.reader.Asking.TheVariants.{Nothing, Wrong, Right}
 use Rattle.reader_spec.specs.declared.reader.Reader.{Reader}
-use Rattle.reader_spec.specs.declared.reader.Powered.{Powered}
 use Rattle.reader_spec.specs.declared.reader.Answer.{Answer}
 use Rattle.reader_spec.specs.Speeds.{powered_speed, served}
 use Rattle.reader_spec.specs.State.{state_of, fresh_state}
 use Rattle.reader_spec.specs.Asking.{asking}
 use Rattle.reader_spec.specs.Replies.{reply_image, reply_to}
-use Rattle.reader_spec.specs.Sending.{buffer_named, Buffers, sent}
-use Rattle.reader_spec.specs.Answering.{Input, powering, powered_on, Answers}
+use Rattle.reader_spec.specs.Sending.{Buffers, sent}
+use Rattle.reader_spec.specs.Answering.{Input, powered_reader, powering, powered_on, answer_of, Answered, answer_says, Answers}
 
 -- ---- what the calls so far tell
 
@@ -97,12 +95,12 @@ bytes_of content none = []
 bytes_of content (some reply) = reply_image (identifier_of content) (command_of content) reply
 
 -- what the code and data of an input ask for, as a request may
-abbrev pub asks_for : Input → Acceptance
+abbrev pub asks_for : Input → Result Command Fault
 asks_for i = acceptance (command_of i.content) (data_of i.content)
 
 module _ (h : History) (i : Input) where
   -- and what this reader makes of that
-  abbrev pub served_of : Acceptance
+  abbrev pub served_of : Result Command Fault
   served_of = served h.fast (command_of i.content) (data_of i.content)
 
   -- the input's identifier and command are those of the last executed command
@@ -110,9 +108,9 @@ module _ (h : History) (i : Input) where
   repeats_last = repeats h.last (identifier_of i.content) (command_of i.content)
 
   -- step 6: executed, and remembered; steps 4 and 5: not
-  abbrev pub judged_history : Acceptance → History
-  judged_history (Faulty fault) = h
-  judged_history (Accepted command) =
+  abbrev pub judged_history : Result Command Fault → History
+  judged_history (Err fault) = h
+  judged_history (Ok command) =
       record {
         value = values_after h.value command (data_of i.content);
         fast = h.fast;
@@ -136,9 +134,9 @@ module _ (h : History) (i : Input) where
   next_history_by refusal = cond (eqb refusal 0) next_history h
 
   -- the reply that is due: by steps 4 to 6
-  abbrev pub judged_reply : Acceptance → Reply
-  judged_reply (Faulty fault) = NACK (nack_of fault)
-  judged_reply (Accepted command) = reply_to h.value command i.header i.antenna
+  abbrev pub judged_reply : Result Command Fault → Reply
+  judged_reply (Err fault) = NACK (nack_of fault)
+  judged_reply (Ok command) = reply_to h.value command i.header i.antenna
 
   -- by steps 1 to 3
   abbrev pub due_as : Asking → Option Reply
@@ -180,36 +178,44 @@ StoreKept false h held store = Unit {0}
 pub record Call (alone : Bool) (h : History) (s : Reader) (held : List ℕ) : Type 0 where
   pub input : Input
   pub lent : Buffers
-  pub answer : Answer
+  pub answer : Result Answer Refusal
   pub left : Buffers
   pub kept : StoreKept alone h held lent.store
   pub whole : length input.header ≡ header_length
   pub says : Answers s input lent answer left
 
 module _ {alone : Bool} {h : History} {s : Reader} {held : List ℕ} (c : Call alone h s held) where
+  -- the reader for the next one
+  abbrev pub reader_after : Reader
+  reader_after = (answer_of s c.answer).reader
+
+  -- what it answers in the paper's words
+  abbrev pub outcome : Answered
+  outcome = answer_says s c.answer c.left
+
   -- it was not refused
   abbrev pub Done : Type 0
-  Done = number c.answer.refusal ≡ 0
+  Done = outcome.refusal ≡ 0
 
   -- what it sends
   abbrev pub bytes_sent : List ℕ
-  bytes_sent = sent (buffer_named c.answer.buffer) c.answer.length c.left
+  bytes_sent = sent outcome.buffer outcome.length c.left
 
   -- what is told after it
   abbrev pub history_after : History
-  history_after = next_history_by h c.input (number c.answer.refusal)
+  history_after = next_history_by h c.input outcome.refusal
 
 -- Calls and power-ons in a row from a fresh reader, fast or slow, each with the reader that the last one answered; what the store held as the
 -- last call returned; and what they tell.
 pub data ReaderSession (alone : Bool) : Reader → List ℕ → History → Type 0 where
   begins : (r : Reader) (store : List ℕ) (fast : Bool) → state_of r ≡ fresh_state fast → ReaderSession alone r store (begun fast)
   powered : {s : Reader} {held : List ℕ} {h : History} → ReaderSession alone s held h
-      → (r : Powered)
-      → powering r ≡ powered_on (state_of s)
-      → ReaderSession alone r.reader held (powered_by h (number r.refusal))
+      → (r : Result Reader Refusal)
+      → powering s r ≡ powered_on (state_of s)
+      → ReaderSession alone (powered_reader s r) held (powered_by h (powering s r).refusal)
   called : {s : Reader} {held : List ℕ} {h : History} → ReaderSession alone s held h
       → (c : Call alone h s held)
-      → ReaderSession alone c.answer.reader c.left.store (history_after c)
+      → ReaderSession alone (reader_after c) c.left.store (history_after c)
 
 -- how the reader of a session was made: fast, or slow
 unfoldable pub made_fast : {alone : Bool} {s : Reader} {held : List ℕ} {h : History} → ReaderSession alone s held h → Bool
@@ -223,20 +229,20 @@ pub data Idle (alone : Bool) (h : History) (s : Reader) (held : List ℕ) : Read
   passes : {t : Reader} {kept : List ℕ} → Idle alone h s held t kept
       → (c : Call alone h t kept)
       → (Done c → is_executed h c.input ≡ false)
-      → Idle alone h s held c.answer.reader c.left.store
+      → Idle alone h s held (reader_after c) c.left.store
 
 -- Calls and power-ons in a row that execute no write of this parameter, from one reader, store and history to another. `with_power` says whether
 -- there was a power-on among them, of which none is refused.
 pub data Unwritten (alone : Bool) (p : Parameter) (s : Reader) (held : List ℕ) (h : History) : Reader → List ℕ → History → Bool → Type 0 where
   still : Unwritten alone p s held h s held h false
   power : {t : Reader} {kept : List ℕ} {k : History} {with_power : Bool} → Unwritten alone p s held h t kept k with_power
-      → (r : Powered)
-      → powering r ≡ powered_on (state_of t)
-      → Unwritten alone p s held h r.reader kept (powered_by k (number r.refusal)) true
+      → (r : Result Reader Refusal)
+      → powering t r ≡ powered_on (state_of t)
+      → Unwritten alone p s held h (powered_reader t r) kept (powered_by k (powering t r).refusal) true
   other : {t : Reader} {kept : List ℕ} {k : History} {with_power : Bool} → Unwritten alone p s held h t kept k with_power
       → (c : Call alone k t kept)
-      → (Done c → is_executed k c.input ≡ true → asks_for c.input ≡ Accepted (Write p) → ⊥)
-      → Unwritten alone p s held h c.answer.reader c.left.store (history_after c) with_power
+      → (Done c → is_executed k c.input ≡ true → asks_for c.input ≡ Ok (Write p) → ⊥)
+      → Unwritten alone p s held h (reader_after c) c.left.store (history_after c) with_power
 
 -- what is left of a value after them
 abbrev pub left_of : Bool → Parameter → List ℕ → List ℕ

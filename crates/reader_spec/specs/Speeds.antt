@@ -1,12 +1,11 @@
 -- The speeds above 115200 baud: which readers have them, what a power-on leaves of them, and which commands a reader therefore does not do.
 -- 02, L2; 003, 'Параметры считывателя', the note **. Assumes nothing.
-use Rattle.std.specs.Prelude.{ℕ, ◌≤◌, Bool, true, cond, ◌&&◌, ◌||◌, not, List, [], ◌∷◌, ltb, get_or, drop}
+use Rattle.std.specs.Prelude.{ℕ, ◌≤◌, Bool, true, cond, ◌&&◌, ◌||◌, not, List, [], ◌∷◌, ltb, get_or, drop, Result, Ok, Err}
 use Rattle.request_spec.specs.declared.parameter.Parameter.{Parameter}
 use Rattle.request_spec.specs.declared.parameter.Parameter.TheVariants.{Speed, Settings, Cell}
 use Rattle.request_spec.specs.declared.command.Command.{Command}
 use Rattle.request_spec.specs.declared.command.Command.TheVariants.{Header, Write, Read, Card}
-use Rattle.request_spec.specs.declared.command.Acceptance.{Acceptance}
-use Rattle.request_spec.specs.declared.command.Acceptance.TheVariants.{Accepted, Faulty}
+use Rattle.request_spec.specs.declared.command.Fault.{Fault}
 use Rattle.request_spec.specs.declared.command.Fault.TheVariants.{BadData}
 use Rattle.request_spec.specs.Parameters.{is_speed}
 use Rattle.request_spec.specs.Acceptance.{acceptance}
@@ -38,12 +37,12 @@ serves fast (Read p) «data» = true
 serves fast (Card card) «data» = true
 
 -- step 5: such a write is bad data, so NACK 3
-abbrev pub served_as : Bool → List ℕ → Acceptance → Acceptance
-served_as fast «data» (Accepted command) = cond (serves fast command «data») (Accepted command) (Faulty BadData)
-served_as fast «data» (Faulty fault) = Faulty fault
+abbrev pub served_as : Bool → List ℕ → Result Command Fault → Result Command Fault
+served_as fast «data» (Ok command) = cond (serves fast command «data») (Ok command) (Err BadData)
+served_as fast «data» (Err fault) = Err fault
 
 -- so what a reader, fast or slow, makes of a code and data: a command that it executes, or the NACK of step 4 or 5
-abbrev pub served : Bool → ℕ → List ℕ → Acceptance
+abbrev pub served : Bool → ℕ → List ℕ → Result Command Fault
 served fast code «data» = served_as fast «data» (acceptance code «data»)
 
 -- A write of a speed of 8, 9 or 10. `Laws.Speeds` proves that of what a request may be a slow reader does all but these, and a fast one all.

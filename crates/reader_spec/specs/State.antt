@@ -1,13 +1,11 @@
 -- A reader's state in the paper's words: three parameters, whether it is fast, and the memory of the last executed command.
 -- 01, The point reader, 'State' and step 3, and Refusal numbers, row 4; 02, L2; 001, 'О повторном запросе'. Assumes nothing.
-use Rattle.std.specs.Prelude.{ℕ, ◌≤◌, ◌<◌, ◌≡◌, Bool, false, cond, ◌&&◌, ◌||◌, not, eqb, ltb}
+use Rattle.std.specs.Prelude as std
+use Rattle.std.specs.Prelude.{ℕ, ◌≤◌, ◌<◌, ◌≡◌, Bool, false, cond, ◌&&◌, ◌||◌, not, eqb, ltb, None, Some}
 use Rattle.std.proofs.Math.Option.{Option, none, some}
-use Rattle.reader_spec.specs.declared.reader.Memory.{Memory}
-use Rattle.reader_spec.specs.declared.reader.Memory.TheVariants as memory
+use Rattle.reader_spec.specs.declared.reader as declared
 use Rattle.reader_spec.specs.declared.reader.Parameters.{Parameters}
 use Rattle.reader_spec.specs.declared.reader.Reader.{Reader}
-use Rattle.reader_spec.specs.declared.reader.Repeat.{Repeat}
-use Rattle.reader_spec.specs.declared.reader.Repeat.TheVariants.{New, Stored}
 use Rattle.reader_spec.specs.Limits.{room}
 use Rattle.reader_spec.specs.Parameters.{fresh_parameters}
 use Rattle.reader_spec.specs.Speeds.{has_speed}
@@ -30,9 +28,9 @@ abbrev pub state_with : Parameters → Bool → Option Last → State
 state_with ps fast last = record { parameters = ps; fast = fast; last = last }
 
 -- what a reader's memory says
-abbrev pub remembered : Memory → Option Last
-remembered memory.None = none
-remembered (memory.Last identifier command length) = some (last_of identifier command length)
+abbrev pub remembered : std.Option declared.Last.Last → Option Last
+remembered None = none
+remembered (Some last) = some (last_of last.identifier last.command last.length)
 
 -- what a reader says
 abbrev pub state_of : Reader → State
@@ -43,10 +41,10 @@ abbrev pub fresh_state : Bool → State
 fresh_state fast = state_with fresh_parameters fast none
 
 -- step 3: identifier and command equal those of the last executed command; its stored reply has this length
-abbrev pub find : Option Last → ℕ → ℕ → Repeat
-find none identifier command = New
+abbrev pub find : Option Last → ℕ → ℕ → std.Option ℕ
+find none identifier command = None
 find (some last) identifier command =
-    cond (eqb last.identifier identifier && eqb last.command command) (Stored last.length) New
+    cond (eqb last.identifier identifier && eqb last.command command) (Some last.length) None
 
 -- row 4: remembered length over 130
 abbrev pub too_far : Option Last → Bool

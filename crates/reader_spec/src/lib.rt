@@ -5,7 +5,7 @@
 mod reader;
 
 use link_spec::MOST_DATA;
-pub use reader::{Answer, Asking, Buffer, Memory, Parameters, Powered, Reader, Repeat};
+pub use reader::{Answer, Asking, Buffer, Last, Parameters, Reader};
 use wire_spec::MOST_IMAGE;
 
 // The store and the out buffer each hold the image of any frame.

@@ -1,5 +1,4 @@
 // The point reader between two calls, and what a call answers.
-use ground::Refusal;
 use request_spec::{CELL_LENGTH, SETTINGS_LENGTH};
 
 // The values of a reader's parameters.
@@ -10,31 +9,21 @@ pub struct Parameters {
     pub cell: [u8; CELL_LENGTH],
 }
 
-// The last command executed since power-on, if any: identifier, command, and the length of the reply that the store holds.
+// A command that was executed: identifier, command, and the length of the reply that the store holds.
 #[derive(Clone, Copy)]
-pub enum Memory {
-    None,
-    Last {
-        identifier: u8,
-        command: u8,
-        length: usize,
-    },
+pub struct Last {
+    pub identifier: u8,
+    pub command: u8,
+    pub length: usize,
 }
 
-// A reader between two calls: its three parameters, whether its model has the speeds above 115200 baud, and the memory of the last
-// executed command.
+// A reader between two calls: its three parameters, whether its model has the speeds above 115200 baud, and the last command executed since
+// power-on, if any.
 #[derive(Clone, Copy)]
 pub struct Reader {
     pub parameters: Parameters,
     pub fast: bool,
-    pub memory: Memory,
-}
-
-// A reader after power-on; as it was where the call refused.
-#[derive(Clone, Copy)]
-pub struct Powered {
-    pub refusal: Refusal,
-    pub reader: Reader,
+    pub memory: Option<Last>,
 }
 
 // What an event asks of a reader: nothing that it answers, or an answer to a frame whose check is wrong, or right.
@@ -43,13 +32,6 @@ pub enum Asking {
     Nothing,
     Wrong,
     Right,
-}
-
-// A frame that is new, or one that repeats the last executed command, whose stored reply is so long.
-#[derive(Clone, Copy)]
-pub enum Repeat {
-    New,
-    Stored(usize),
 }
 
 // The two buffers that a reader is lent: the out buffer, which holds a reply as it is written, and the store, which keeps the last executed
@@ -63,7 +45,6 @@ pub enum Buffer {
 // What one call answers: the reader for the next call, and the bytes to send, the first `length` of a buffer.
 #[derive(Clone, Copy)]
 pub struct Answer {
-    pub refusal: Refusal,
     pub reader: Reader,
     pub buffer: Buffer,
     pub length: usize,

@@ -5,22 +5,17 @@ ghost use Rattle.request_spec.specs.Acceptance.{FitsCommand, judgement};
 ghost use Rattle.reader_spec.specs.Speeds.{has_value, serves as serves_of, served};
 
 use crate::speed::has_speed;
-use request::{Acceptance, Command, Fault, Parameter, accept};
+use request::{Command, Fault, Parameter, accept};
 
 // What a reader, fast or slow, makes of a request's code and data: what they may be, but for a speed that it does not have.
-pub fn judge(fast: bool, code: u8, data: &[u8]) -> Acceptance
+pub fn judge(fast: bool, code: u8, data: &[u8]) -> Result<Command, Fault>
     ensures { judgement result ≡ judgement (served fast code «data».now) }
 {
-    let acceptance = accept(code, data);
-    match acceptance {
-        Acceptance::Accepted(command) => {
-            if serves(fast, command, data) {
-                acceptance
-            } else {
-                Acceptance::Faulty(Fault::BadData)
-            }
-        }
-        Acceptance::Faulty(_) => acceptance,
+    let command = accept(code, data)?;
+    if serves(fast, command, data) {
+        Ok(command)
+    } else {
+        Err(Fault::BadData)
     }
 }
 
@@ -31,9 +26,7 @@ fn serves(fast: bool, command: Command, data: &[u8]) -> bool
 {
     match command {
         Command::Write(parameter) => has_value(fast, parameter, &data[1..]),
-        Command::Header => true,
-        Command::Read(_) => true,
-        Command::Card(_) => true,
+        Command::Header | Command::Read(_) | Command::Card(_) => true,
     }
 }
 
@@ -44,7 +37,6 @@ fn has_value(fast: bool, parameter: Parameter, value: &[u8]) -> bool
 {
     match parameter {
         Parameter::Speed => has_speed(fast, value[0]),
-        Parameter::Settings => true,
-        Parameter::Cell => true,
+        Parameter::Settings | Parameter::Cell => true,
     }
 }

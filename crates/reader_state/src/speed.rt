@@ -19,21 +19,12 @@ fn is_above(speed: u8) -> bool
 pub(crate) fn has_speed(fast: bool, speed: u8) -> bool
     ensures { result ≡ has_speed fast speed }
 {
-    if fast {
-        return is_speed(speed);
-    }
-    if is_above(speed) {
-        return false;
-    }
-    is_speed(speed)
+    is_speed(speed) && (fast || !is_above(speed))
 }
 
 // The speed after a power-on.
 pub(crate) fn powered_speed(speed: u8) -> u8
     ensures { result ≡ powered_speed speed }
 {
-    if is_above(speed) {
-        return SPEED_9600;
-    }
-    speed
+    if is_above(speed) { SPEED_9600 } else { speed }
 }

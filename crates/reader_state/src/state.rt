@@ -6,7 +6,7 @@ ghost use Rattle.reader_spec.specs.Answering.{powering, powered_on};
 
 use crate::speed::{SPEED_9600, has_speed, powered_speed};
 use ground::Refusal;
-use reader_spec::{Memory, Parameters, Powered, ROOM, Reader};
+use reader_spec::{Last, Parameters, ROOM, Reader};
 use request::{CELL_LENGTH, SETTINGS_LENGTH};
 
 // A fresh reader: speed 3, zeros in the other parameters, and no last command. `fast` says whether its model has the speeds above 115200
@@ -17,7 +17,7 @@ pub fn fresh_reader(fast: bool) -> Reader
     Reader {
         parameters: fresh_parameters(),
         fast,
-        memory: Memory::None,
+        memory: None,
     }
 }
 
@@ -32,37 +32,25 @@ fn fresh_parameters() -> Parameters
 }
 
 // Forgets the last command, and keeps the parameters but for a speed above 7, which becomes 3. Refuses a bad reader (BadState).
-pub fn power_on(reader: Reader) -> Powered
-    ensures { powering result ≡ powered_on (state_of reader) }
+pub fn power_on(reader: Reader) -> Result<Reader, Refusal>
+    ensures { powering reader result ≡ powered_on (state_of reader) }
 {
     if is_bad_reader(reader) {
-        return Powered {
-            refusal: Refusal::BadState,
-            reader,
-        };
+        return Err(Refusal::BadState);
     }
-    let parameters = after_power(reader.parameters);
-    let reader = Reader {
-        parameters,
-        fast: reader.fast,
-        memory: Memory::None,
-    };
-    Powered {
-        refusal: Refusal::None,
-        reader,
-    }
+    Ok(Reader {
+        parameters: after_power(reader.parameters),
+        memory: None,
+        ..reader
+    })
 }
 
 fn after_power(parameters: Parameters) -> Parameters
     ensures { result ≡ after_power parameters }
 {
-    let speed = powered_speed(parameters.speed);
-    let settings = parameters.settings;
-    let cell = parameters.cell;
     Parameters {
-        speed,
-        settings,
-        cell,
+        speed: powered_speed(parameters.speed),
+        ..parameters
     }
 }
 
@@ -70,26 +58,12 @@ fn after_power(parameters: Parameters) -> Parameters
 pub fn is_bad_reader(reader: Reader) -> bool
     ensures { result ≡ bad_state (state_of reader) }
 {
-    let parameters = reader.parameters;
-    let fast = reader.fast;
-    let memory = reader.memory;
-    if has_speed(fast, parameters.speed) {
-        is_too_far(memory)
-    } else {
-        true
-    }
+    !has_speed(reader.fast, reader.parameters.speed) || is_too_far(reader.memory)
 }
 
 // Whether the remembered length is over 130.
-fn is_too_far(memory: Memory) -> bool
+fn is_too_far(memory: Option<Last>) -> bool
     ensures { result ≡ too_far (remembered memory) }
 {
-    match memory {
-        Memory::None => false,
-        Memory::Last {
-            identifier: _,
-            command: _,
-            length,
-        } => length > ROOM,
-    }
+    memory.is_some_and(|last| last.length > ROOM)
 }

@@ -1,12 +1,13 @@
 // Reports a tape: its bytes on standard input, the report on standard output once the tape is over.
 #![tactic(auto)]
 
-ghost use Rattle.std.specs.Prelude.{◌≡◌, ◌+◌, ◌≤◌, length, take};
+ghost use Rattle.std.specs.Prelude.{◌≡◌, ◌+◌, ◌≤◌, length, take, Ok};
 ghost use Rattle.ground.specs.Laying.{laid};
 ghost use Rattle.totals_spec.specs.Rows.{sums_row, most_row, report_text, most_text};
 ghost use Rattle.totals_spec.specs.Adding.{reported_by};
 
 use ground::Refusal;
+use progress::Progress;
 use std::io::{Error, Read, Write};
 use std::process::ExitCode;
 use terminal::{begin, fail, hide, show};
@@ -30,20 +31,6 @@ enum Failure {
     Refused,
 }
 
-// Where the reading stands: a block of this many bytes is added and the next one is read, nothing further of the tape is, or nothing can be.
-#[derive(Clone, Copy)]
-enum Course {
-    Reading(usize),
-    Over,
-    Failed(Error),
-}
-
-#[derive(Clone, Copy)]
-struct Stage {
-    totals: Totals,
-    course: Course,
-}
-
 // Says what failed, and why.
 fn tell(rt: &HostRuntime, failure: Failure) {
     match failure {
@@ -60,15 +47,9 @@ fn tell(rt: &HostRuntime, failure: Failure) {
     }
 }
 
-// Writes all of `text`, or says why it cannot.
-fn print(rt: &HostRuntime, text: &[u8]) -> bool {
-    match rt.stdout().write_all(text) {
-        Ok(()) => true,
-        Err(error) => {
-            tell(rt, Failure::Write(error));
-            false
-        }
-    }
+// Writes all of `text`.
+fn print(rt: &HostRuntime, text: &[u8]) -> Result<(), Failure> {
+    rt.stdout().write_all(text).map_err(Failure::Write)
 }
 
 // Puts the row of a line at a place of `text`, which has room for the longest; where it ends.
@@ -78,106 +59,71 @@ fn put_line(report: LineReport, text: &mut [u8], at: usize) -> usize
     ensures value { result ≡ at + length (sums_row report.line report.sums) }
     ensures text_after { text.new ≡ laid text.old at (sums_row report.line report.sums) }
 {
-    let line = report.line;
-    let sums = report.sums;
-    let row = write_sums(line, sums, &mut text[at..]);
-    at + row.end
+    at + write_sums(report.line, report.sums, &mut text[at..]).unwrap()
 }
 
 // Puts all rows of a report to the front of `text`; where they end.
 fn put_report(report: Report, text: &mut [u8]) -> usize
     requires { most_text ≤ length text.old }
     ensures upper_bound { result ≤ length text.new }
-    ensures text_after { take result text.new ≡ report_text (reported_by report) }
+    ensures text_after { take result text.new ≡ report_text (reported_by (Ok report)) }
 {
-    let title = write_title(text);
-    let first = report.first;
-    let second = report.second;
-    let end = put_line(first, text, title.end);
-    let end = put_line(second, text, end);
-    let ending = report.ending;
-    let last = write_ending(ending, report.records, &mut text[end..]);
-    end + last.end
+    let title = write_title(text).unwrap();
+    let first = put_line(report.first, text, title);
+    let second = put_line(report.second, text, first);
+    second + write_ending(report.ending, report.records, &mut text[second..]).unwrap()
 }
 
-// Writes a report once all of it is there, or why there is none; whether it is written.
-fn print_report(rt: &HostRuntime, report: Report) -> bool {
-    let refusal = report.refusal;
-    match refusal {
-        Refusal::None => {
+// Writes a report once all of it is there; of a tape that is too long a row that says so.
+fn print_report(rt: &HostRuntime, report: Result<Report, Refusal>) -> Result<(), Failure> {
+    match report {
+        Ok(report) => {
             let mut text = [0u8; MOST_TEXT];
             let end = put_report(report, &mut text);
             print(rt, &text[..end])
         }
-        Refusal::TapeTooLong => {
-            print(rt, b"refused 10 TapeTooLong\n");
-            tell(rt, Failure::TooLong);
-            false
+        Err(Refusal::TapeTooLong) => {
+            if let Err(failure) = print(rt, b"refused 10 TapeTooLong\n") {
+                tell(rt, failure);
+            }
+            Err(Failure::TooLong)
         }
-        _ => {
-            tell(rt, Failure::Refused);
-            false
-        }
-    }
-}
-
-// Reads a block of the tape and adds it up. Without one the tape is over. Totals that are refused here come back as they were, and the report
-// refuses them too.
-fn add_block(rt: &HostRuntime, totals: Totals, block: &mut [u8]) -> Stage {
-    match rt.stdin().read(block) {
-        Err(error) => Stage {
-            totals,
-            course: Course::Failed(error),
-        },
-        Ok(0) => Stage {
-            totals,
-            course: Course::Over,
-        },
-        Ok(count) => {
-            let added = add(totals, &block[..count]);
-            let totals = added.totals;
-            let course = if is_over(totals.tape) {
-                Course::Over
-            } else {
-                Course::Reading(count)
-            };
-            Stage { totals, course }
-        }
+        Err(_) => Err(Failure::Refused),
     }
 }
 
 // No tape is read further than 2^33 - 1 bytes, and a block has one at least.
 const MOST_BLOCKS: u64 = 0x2_0000_0000;
 
-// Reports a whole tape; whether all was read and written.
-fn report_tape(rt: &HostRuntime) -> bool {
+// Reads all blocks of a tape and adds them up.
+fn add_blocks(rt: &HostRuntime, progress: &mut Progress) -> Result<Totals, Failure> {
     let mut block = [0u8; BLOCK];
     let mut totals = fresh_totals();
-    let mut progress = begin(rt, true);
-    let mut turns = MOST_BLOCKS;
-    while turns > 0 {
-        turns -= 1;
-        let stage = add_block(rt, totals, &mut block);
-        totals = stage.totals;
-        let course = stage.course;
-        match course {
-            Course::Reading(count) => progress = show(rt, progress, count),
-            Course::Over => turns = 0,
-            Course::Failed(error) => {
-                hide(rt, progress);
-                tell(rt, Failure::Read(error));
-                return false;
-            }
+    for _ in 0..MOST_BLOCKS {
+        let count = rt.stdin().read(&mut block).map_err(Failure::Read)?;
+        totals = add(totals, &block[..count]).map_err(|_| Failure::Refused)?;
+        if count == 0 || is_over(totals.tape) {
+            break;
         }
+        *progress = show(rt, *progress, count);
     }
+    Ok(totals)
+}
+
+// Reports a whole tape. The notice is taken away before anything else is said.
+fn report_tape(rt: &HostRuntime) -> Result<(), Failure> {
+    let mut progress = begin(rt, true);
+    let added = add_blocks(rt, &mut progress);
     hide(rt, progress);
-    print_report(rt, report(totals))
+    print_report(rt, report(added?))
 }
 
 fn main(rt: HostRuntime) -> ExitCode {
-    if report_tape(&rt) {
-        ExitCode::SUCCESS
-    } else {
-        ExitCode::FAILURE
+    match report_tape(&rt) {
+        Ok(()) => ExitCode::SUCCESS,
+        Err(failure) => {
+            tell(&rt, failure);
+            ExitCode::FAILURE
+        }
     }
 }

@@ -6,6 +6,7 @@ use crate::parameter::{is_value_of, with_code};
 use request_spec::{Card, Command, Fault};
 
 // What this code asks for with this data.
+#[tactic(auto, unfolding(request_spec::specs::Acceptance::acceptance))]
 pub fn accept(code: u8, data: &[u8]) -> Result<Command, Fault>
     ensures { judgement result ≡ judgement (acceptance code «data».now) }
 {

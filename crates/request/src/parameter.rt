@@ -9,6 +9,7 @@ const LEAST_SPEED: u8 = 3;
 const MOST_SPEED: u8 = 10;
 
 // The parameter that a code names, if there is one.
+#[tactic(auto, unfolding(request_spec::specs::Parameters::parameter_with))]
 pub(crate) fn with_code(code: u8) -> Option<Parameter>
     ensures { result ≡ parameter_with code }
 {
@@ -39,14 +40,13 @@ pub fn is_speed(value: u8) -> bool
 }
 
 // Whether the parameter may be given this value.
+#[tactic(auto, unfolding(request_spec::specs::Parameters::is_value_of))]
 pub(crate) fn is_value_of(parameter: Parameter, value: &[u8]) -> bool
     ensures { result ≡ is_value_of parameter value.now }
 {
-    if value.len() != length_of(parameter) {
-        return false;
-    }
-    match parameter {
-        Parameter::Speed => is_speed(value[0]),
-        Parameter::Settings | Parameter::Cell => true,
-    }
+    value.len() == length_of(parameter)
+        && match parameter {
+            Parameter::Speed => is_speed(value[0]),
+            Parameter::Settings | Parameter::Cell => true,
+        }
 }

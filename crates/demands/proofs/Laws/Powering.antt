@@ -23,8 +23,8 @@ use Rattle.reader_spec.specs.Speeds.{has_speed, powered_speed}
 use Rattle.reader_spec.specs.Parameters.{value_of, after_power}
 use Rattle.reader_spec.specs.State.{state_of, BadState}
 use Rattle.reader_spec.specs.Replies.{reply_image}
-use Rattle.reader_spec.specs.Answering.{powering, powered_on, answer_says, Answered}
-use Rattle.reader_spec.specs.Sessions.{History, powered_value, powered_by, Call, bytes_sent, ReaderSession, made_fast}
+use Rattle.reader_spec.specs.Answering.{powering, powered_on, Answered}
+use Rattle.reader_spec.specs.Sessions.{History, powered_value, powered_by, Call, outcome, bytes_sent, ReaderSession, made_fast}
 use Rattle.reader_spec.proofs.Laws.Speeds.{has_within, slow-within, speed-stays, speed-falls, powered-slow, above-row}
 use Rattle.reader_spec.proofs.Laws.Parameters.{value-powered}
 use Rattle.reader_spec.proofs.Laws.State.{good-state, no_row, good-speed}
@@ -127,7 +127,7 @@ slow-never {s = s} se slow =
     }
 
 never-bad : {alone : Bool} {s : Reader} {held : List ℕ} {h : History} → ReaderSession alone s held h → (c : Call alone h s held)
-    → (answer_says s c.answer c.left).refusal ≡ 4
+    → (outcome c).refusal ≡ 4
     → ⊥
 never-bad {s = s} se c is =
     good-state (session-good se) (four-only (state_of s) c.input c.lent (sym (ap (λ (a : Answered). a.refusal) c.says) ∙ is))

@@ -26,8 +26,8 @@ use Rattle.reader_spec.specs.Speeds.{served_as, served, WritesAbove}
 use Rattle.reader_spec.specs.State.{state_of}
 use Rattle.reader_spec.specs.Asking.{asking}
 use Rattle.reader_spec.specs.Answering as carries
-use Rattle.reader_spec.specs.Answering.{Answered, answer_says, is_front, judged, CarriesContent}
-use Rattle.reader_spec.specs.Sessions.{Execution, History, repeats, repeats_last, asks_for, served_of, is_frame, bytes_of, due_as, to_send, is_executed, Call, Done, bytes_sent, ReaderSession}
+use Rattle.reader_spec.specs.Answering.{Answered, is_front, judged, CarriesContent}
+use Rattle.reader_spec.specs.Sessions.{Execution, History, repeats, repeats_last, asks_for, served_of, is_frame, bytes_of, due_as, to_send, is_executed, Call, outcome, Done, bytes_sent, ReaderSession}
 use Rattle.reader_spec.proofs.Laws.Speeds.{served-row, above-row, above-faulty}
 use Rattle.reader_spec.proofs.Laws.Answering.{front-is, does-steps, steps-fine}
 use Rattle.reader_spec.proofs.Laws.Replies.{executed-answer}
@@ -71,7 +71,7 @@ module _ {alone : Bool} {s : Reader} {held : List ℕ} {h : History} (se : Reade
   executes asked = rw (frame, new, served-is ∙ asked) refl
 
   judges : {k : Result Command Fault} → served h.fast code «data» ≡ k → length «data» ≤ most_data
-      → answer_says c.answer c.left ≡ judged (state_of s) c.input c.lent k
+      → outcome c ≡ judged (state_of s) c.input c.lent k
   judges {k} asked short =
       let framed = call-framed se c (done short) frame in
       rw (new, served-is ∙ asked) at framed

@@ -1,7 +1,7 @@
 -- What is told of a log from the calls' inputs agrees with its record.
 -- Assumes nothing.
 use mathlib.Core.Path.{◌≡◌, refl, sym, ap, ◌∙◌}
-use mathlib.Core.Bool.{Bool, true, false}
+use mathlib.Core.Bool.{Bool}
 use mathlib.Core.List.{List, [], ◌∷◌, ◌++◌}
 use mathlib.Core.Logic.{◌⊎◌, inl, inr, ⊎_elim}
 use Prim.Native.Nat.{ℕ, suc, ◌+◌, ◌-◌, ◌%◌, ◌≤◌, ◌<◌}
@@ -10,14 +10,13 @@ use lib.Dec.{eqb, ltb}
 use lib.ListN.{length, get_or, length-append, length-replicate, get_or-append}
 use lib.Seq.{get_or_at}
 use borrow.Author.Tests.{ltb-true, ltb-false, eqb-true, eqb-false, eq-eqb, ne_eqb}
-use Rattle.ground.specs.Laying.{laid}
 use Rattle.ground.proofs.Laws.Choice.{by-test}
 use Rattle.ground.proofs.Laws.Laying.{length-laid}
 use Rattle.event_log_spec.specs.declared.log.Log.{Log}
 use Rattle.event_log_spec.specs.Limits.{most_held, body_length, ring_length, identifiers}
 use Rattle.event_log_spec.specs.Log.{empty_log, place_of, body_start, body_at}
 use Rattle.event_log_spec.specs.Appending.{one_more, with_entry}
-use Rattle.event_log_spec.specs.Lots.{Lot, one_new}
+use Rattle.event_log_spec.specs.Lots.{one_new}
 use Rattle.event_log_spec.specs.Sessions.{History, history_with, made, told_after, history_of}
 use Rattle.event_log_spec.proofs.Laws.Log.{Good}
 use Rattle.event_log_spec.proofs.Laws.Lots.{lots_of, holds_more, drops-deleted, drops-waiting}

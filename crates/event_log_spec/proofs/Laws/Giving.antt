@@ -1,13 +1,13 @@
 -- What is told after a call that answers an event agrees with the log that it leaves, and the oldest waiting entry is the one that is told.
 -- Assumes nothing.
-use mathlib.Core.Path.{◌≡◌, refl, sym, ap, ap₂, subst⁻¹, ◌∙◌}
-use mathlib.Core.Bool.{Bool, true, false, cond, ◌&&◌, and-false}
-use mathlib.Core.List.{List, [], ◌∷◌, ◌++◌}
+use mathlib.Core.Path.{◌≡◌, refl, sym, ap, ap₂, ◌∙◌}
+use mathlib.Core.Bool.{Bool, false, and-false}
+use mathlib.Core.List.{List, [], ◌++◌}
 use mathlib.Core.Option.{none, some}
-use Prim.Native.Nat.{ℕ, zero, suc, ◌+◌, ◌-◌, ◌%◌, ◌≤◌, ◌<◌}
+use Prim.Native.Nat.{ℕ, suc, ◌+◌, ◌-◌, ◌%◌, ◌≤◌}
 use native.Mathlib.Omega.{arith}
-use lib.Dec.{eqb, leb}
-use lib.ListN.{length, get_or, drop, length-drop, drop_of_length-le}
+use lib.Dec.{eqb}
+use lib.ListN.{length, drop_of_length-le}
 use borrow.Author.Tests.{eqb-true, eqb-false, eq-eqb, ne_eqb, lt-leb, le-leb}
 use Rattle.request_spec.specs.Header.{low_first}
 use Rattle.ground.proofs.Laws.Choice.{by-test, between-true}
@@ -16,9 +16,9 @@ use Rattle.link_spec.specs.Events.{FRAME}
 use Rattle.event_log_spec.specs.declared.log.Log.{Log}
 use Rattle.event_log_spec.specs.declared.log.Doing.{Doing}
 use Rattle.event_log_spec.specs.Limits.{identifiers, least_front, most_front}
-use Rattle.event_log_spec.specs.Log.{BadLog, held_over, waiting_over, start_outside, place_of, body_at, identifier_before, oldest_waiting}
-use Rattle.event_log_spec.specs.Doing.{doing, Known, read, delete, restore, clear, DoingTable, unknown, with_data, none_to_read, none_to_delete, reads, deletes, restores, clears, waiting_after}
-use Rattle.event_log_spec.specs.Answering.{Input, code_in, data_after, is_frame, Answering, with_waiting, does, answered_to, Unfit, short, long, LogTable, state, no_room, request, others, frame}
+use Rattle.event_log_spec.specs.Log.{BadLog, held_over, waiting_over, start_outside, identifier_before, oldest_waiting}
+use Rattle.event_log_spec.specs.Doing.{doing, delete, restore, clear, DoingTable, unknown, with_data, none_to_read, none_to_delete, reads, deletes, restores, clears, waiting_after}
+use Rattle.event_log_spec.specs.Answering.{Input, code_in, data_after, is_frame, Answering, with_waiting, answered_to, short, long, LogTable, state, no_room, request, others, frame}
 use Rattle.event_log_spec.specs.Lots.{Lot, one_deleted, all_restored, all_cleared, first_waiting}
 use Rattle.event_log_spec.specs.Sessions.{History, history_with, given, is_command, lots_after, told_after, entry_of}
 use Rattle.event_log_spec.proofs.Laws.Log.{Good}

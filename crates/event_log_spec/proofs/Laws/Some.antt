@@ -1,7 +1,6 @@
 -- Every call has a result that its statement allows, so a session can be continued by any call, and there is one of every sequence of acts.
 -- Assumes nothing.
 use mathlib.Core.Path.{◌≡◌, refl}
-use mathlib.Core.Bool.{Bool}
 use mathlib.Core.List.{List, [], ◌∷◌}
 use Prim.Native.Nat.{ℕ}
 use lib.Dec.{ltb}

@@ -8,6 +8,7 @@ use native.Mathlib.Decide.{dec_le}
 use native.Mathlib.Omega.{arith}
 use lib.ListN.{length, take, length-take}
 use lib.Seq.{length-take-le, take_all, take-length, take-take}
+use Rattle.std.specs.Prelude.{Some}
 use Rattle.ground.proofs.Laws.Choice.{no-case}
 use Rattle.checks.specs.Check.{check_length, with_check, front}
 use Rattle.checks.proofs.Laws.Check.{length-with_check}
@@ -39,7 +40,7 @@ taken-first n l = go (dec_le n (length l))
     go (no h) = let all = take_all n l (omega arith) in ap (λ (k : List ℕ). take (length k) l) all ∙ take-length l ∙ sym all
 
 -- at a stop byte, the content so far is what the FRAME carries with its check
-pub stop-content : (s : Receiver) → let v = verdict (check_on s.station) (so_far s) in FRAME ≡ named v.event
+pub stop-content : (s : Receiver) → let v = verdict (check_on s.station) (so_far s) in FRAME ≡ named (Some v.event)
     → checked s.station (take v.length s.content) ≡ so_far s
 stop-content s frame =
     let check = check_on s.station in
@@ -48,8 +49,8 @@ stop-content s frame =
     let short = length-take s.count s.content in
     ap (with_check check) (sym (take-take v s.count s.content (omega (arith, is.within))) ∙ is.carried) ∙ sym is.whole
 
-stop-carries : (s : Receiver) (n : ℕ) → s.count ≤ most_content → let v = verdict (check_on s.station) (so_far s) in FRAME ≡ named v.event
-    → Carries s.station (said_of s v n)
+stop-carries : (s : Receiver) (n : ℕ) → s.count ≤ most_content → let v = verdict (check_on s.station) (so_far s) in FRAME ≡ named (Some v.event)
+    → Carries s.station (said_of s (Some v) n)
 stop-carries s n few frame =
     let k = so_far s in
     let check = check_on s.station in

@@ -7,6 +7,8 @@ use Prim.Native.Nat.{ℕ, ◌+◌}
 use native.Mathlib.Nat.{add-zero}
 use native.Mathlib.Omega.{arith}
 use lib.ListN.{drop, drop_of_length-le}
+use Rattle.std.specs.Prelude.{Result}
+use Rattle.ground.specs.declared.refusal.Refusal.{Refusal}
 use Rattle.ground.proofs.Laws.Lists.{drop-on}
 use Rattle.link_spec.specs.declared.station.Station.{Station}
 use Rattle.link_spec.specs.declared.receiver.Receiver.{Receiver}
@@ -85,17 +87,17 @@ module _ (station : Station) (stream : List ℕ) (before : ℕ) where
 
 module _ {station : Station} (good : has_address station ≡ true) (stream : List ℕ) where
   -- one call, by its statement
-  call-tells : {s : Receiver} (before : ℕ) (piece rest : List ℕ) (r : Heard)
+  call-tells : {s : Receiver} (before : ℕ) (piece rest : List ℕ) (r : Result Heard Refusal)
       → Fit station s
       → drop before stream ≡ piece ++ rest
-      → saying r ≡ received s piece
-      → Fit station r.receiver
-      × (tells before (saying r) ++ tell station (seen r.receiver) (before + r.taken) (drop (before + r.taken) stream)
+      → saying s r ≡ received s piece
+      → Fit station (saying s r).receiver
+      × (tells before (saying s r) ++ tell station (seen (saying s r).receiver) (before + (saying s r).taken) (drop (before + (saying s r).taken) stream)
       ≡ tell station (seen s) before (drop before stream))
   call-tells {s} before piece rest r fit continues says =
       let start : drop (before + 0) stream ≡ piece ++ rest = rw (add-zero before) continues in
-      let says' : saying r ≡ heard 0 s piece = says ∙ hears s piece (fit-good good fit) in
-      let h : Tells station stream before (saying r) 0 s (piece ++ rest) =
+      let says' : saying s r ≡ heard 0 s piece = says ∙ hears s piece (fit-good good fit) in
+      let h : Tells station stream before (saying s r) 0 s (piece ++ rest) =
       subst⁻¹ (λ (said : Said). Tells station stream before said 0 s (piece ++ rest)) says'
       (heard-tells station stream before rest piece 0 s fit start) in
       (h.0, h.1 ∙ ap₂ (tell station (seen s)) (add-zero before) (sym continues))
@@ -105,6 +107,6 @@ module _ {station : Station} (good : has_address station ≡ true) (stream : Lis
       → Fit station s → Hearing stream s before all → all ≡ tell station (seen s) before (drop before stream)
   unfolding tell
   hearing-tells fit (over out) = rw (drop_of_length-le stream out)
-  hearing-tells {before} fit (call piece rest r continues says more) =
+  hearing-tells {s} {before} fit (call piece rest r continues says more) =
       let one = call-tells before piece rest r fit continues says in
-      ap (λ (l : List Told). tells before (saying r) ++ l) (hearing-tells one.0 more) ∙ one.1
+      ap (λ (l : List Told). tells before (saying s r) ++ l) (hearing-tells one.0 more) ∙ one.1

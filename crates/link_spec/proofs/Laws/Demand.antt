@@ -8,6 +8,7 @@ use Prim.Native.Nat.{ℕ, suc, ◌+◌, ◌-◌, ◌≤◌}
 use native.Mathlib.Nat.{add-zero}
 use native.Mathlib.Omega.{arith}
 use lib.ListN.{length, take}
+use Rattle.std.specs.Prelude.{Some}
 use Rattle.ground.proofs.Laws.Choice.{cond-elim}
 use Rattle.checks.specs.declared.kind.Check.{Check}
 use Rattle.checks.specs.Check.{check_length, with_check, front}
@@ -21,7 +22,7 @@ use Rattle.link_spec.specs.declared.receiver.Turn.TheVariants.{Stop}
 use Rattle.link_spec.specs.declared.receiver.Receiver.{Receiver}
 use Rattle.link_spec.specs.Limits.{least_content}
 use Rattle.link_spec.specs.Station.{check_on, checked, has_address}
-use Rattle.link_spec.specs.Events.{Name, FRAME, happened, named, telling, verdict}
+use Rattle.link_spec.specs.Events.{Name, FRAME, happened, named, telling, event_told, length_told, verdict}
 use Rattle.link_spec.specs.Rules.{right}
 use Rattle.link_spec.specs.Receiving.{outcome}
 use Rattle.link_spec.specs.Hearing.{Told, told_at, note, IsFresh, Hearing}
@@ -50,7 +51,7 @@ rise-tell station v at [] = tt
 rise-tell station v at (b ∷ bs) =
     let t = turns station v b in
     let o = outcome (check_on station) v.kept t in
-    rise-note at (named o.event) (take o.length v.kept) (tell station (next v t) (at + 1) bs) (rise-tell station (next v t) (at + 1) bs)
+    rise-note at (named (event_told o)) (take (length_told o) v.kept) (tell station (next v t) (at + 1) bs) (rise-tell station (next v t) (at + 1) bs)
 
 -- ---- an image that stands is told
 
@@ -72,7 +73,7 @@ frame-noted : (station : Station) (content : List ℕ) (place : ℕ) → least_c
     → noted station (view Inside (checked station content)) place Stop ≡ told_at place FRAME content ∷ []
 unfolding noted outcome note front
 frame-noted station content place least =
-    ap (λ (v : Verdict). note place (named v.event) (take v.length (checked station content))) (right-verdict (check_on station) content least)
+    ap (λ (v : Verdict). note place (named (Some v.event)) (take v.length (checked station content))) (right-verdict (check_on station) content least)
     ∙ ap (note place FRAME) (front-with_check (check_on station) content)
 
 stands-told : (station : Station) → has_address station ≡ true → (stream : List ℕ) (v : View) (place : ℕ) (content : List ℕ)

@@ -9,6 +9,7 @@ use mathlib.Core.Logic.{⊎_elim}
 use Prim.Native.Nat.{ℕ, ◌+◌, ◌-◌, ◌≤◌, ◌<◌, zero-le}
 use native.Mathlib.Omega.{arith}
 use lib.ListN.{length, take, length-append}
+use Rattle.std.specs.Prelude.{Some}
 use Rattle.ground.proofs.Laws.Choice.{cond-elim, no-case}
 use Rattle.checks.specs.declared.kind.Check.{Check}
 use Rattle.checks.specs.Check.{with_check, front}
@@ -131,10 +132,10 @@ pub record IsFrame (check : Check) (k : List ℕ) (v : Verdict) : Type 0 where
   pub carried : take v.length k ≡ front check k
   pub within : v.length ≤ length k
 
-pub verdict-frame : (check : Check) (k : List ℕ) → FRAME ≡ named (verdict check k).event → IsFrame check k (verdict check k)
+pub verdict-frame : (check : Check) (k : List ℕ) → FRAME ≡ named (Some (verdict check k).event) → IsFrame check k (verdict check k)
 unfolding front
 verdict-frame check k =
-    by-stop check k (λ (v : Verdict). FRAME ≡ named v.event → IsFrame check k v) (λ few e. no-case (cc))
+    by-stop check k (λ (v : Verdict). FRAME ≡ named (Some v.event) → IsFrame check k v) (λ few e. no-case (cc))
     (λ least w e. no-case (cc))
     (λ least r e. record { least = least; whole = right-with_check check k r; carried = refl; within = omega arith })
 
@@ -171,7 +172,7 @@ module _ (station : Station) (good : has_address station ≡ true) where
         address = rw is e.taken;
       }
 
-  stop-stands : (heard k rest : List ℕ) (b : ℕ) → b ≡ stop → Ends station heard k (wire k) → FRAME ≡ named (verdict (check_on station) k).event
+  stop-stands : (heard k rest : List ℕ) (b : ℕ) → b ≡ stop → Ends station heard k (wire k) → FRAME ≡ named (Some (verdict (check_on station) k).event)
       → Stands station (heard ++ (b ∷ rest)) (length heard + 1) (take (verdict (check_on station) k).length k)
   stop-stands heard k rest b s e frame =
       let f = verdict-frame (check_on station) k frame in
@@ -183,7 +184,7 @@ module _ (station : Station) (good : has_address station ≡ true) where
       → Stands station (heard ++ (b ∷ rest)) place content
   unfolding noted outcome note
   noted-stands heard rest k b place front (stops s) e m =
-      let f = told-frame (named (verdict (check_on station) k).event) m in
+      let f = told-frame (named (Some (verdict (check_on station) k).event)) m in
       rw (f.0, f.2) (stop-stands heard k rest b s e f.1)
   noted-stands heard rest k b place front (no_address a) e m = no-case (cc (told-frame ADDR m).1)
   noted-stands heard rest k b place front (no_pair over f) e m = no-case (cc (told-frame PAIR m).1)

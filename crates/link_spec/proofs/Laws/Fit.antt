@@ -16,7 +16,7 @@ use Rattle.link_spec.specs.declared.receiver.Turn.{Turn}
 use Rattle.link_spec.specs.declared.receiver.Turn.TheVariants.{Rest, Begin, Wait, Keep, Stop, Tell}
 use Rattle.link_spec.specs.declared.receiver.Receiver.{Receiver}
 use Rattle.link_spec.specs.Station.{has_address}
-use Rattle.link_spec.specs.Events.{verdict}
+use Rattle.link_spec.specs.Events.{length_told, verdict}
 use Rattle.link_spec.specs.Receiving.{fresh_receiver, turn_at, moved, outcome, bad_receiver}
 use Rattle.link_spec.proofs.Laws.Turning.{Sound, turn-sound}
 use Rattle.link_spec.proofs.Laws.Events.{by-stop}
@@ -27,7 +27,7 @@ verdict-length : (check : Check) (kept : List ℕ) → (verdict check kept).leng
 verdict-length check kept =
     by-stop check kept (λ (v : Verdict). v.length ≤ length kept) (λ few. zero-le) (λ least w. omega arith) (λ least r. omega arith)
 
-pub outcome-length : (check : Check) (kept : List ℕ) (t : Turn) → (outcome check kept t).length ≤ length kept
+pub outcome-length : (check : Check) (kept : List ℕ) (t : Turn) → length_told (outcome check kept t) ≤ length kept
 unfolding outcome
 outcome-length check kept Rest = zero-le
 outcome-length check kept Begin = zero-le
@@ -60,7 +60,7 @@ turn-leaves s (Keep b) room =
 turn-leaves s Stop sound = record { station = refl; sized = refl; count = λ within. zero-le }
 turn-leaves s (Tell why) sound = record { station = refl; sized = refl; count = λ within. zero-le }
 
--- a byte that is kept has room, and what is told is an event
+-- a byte that is kept has room
 pub sound-at : (s : Receiver) (b : ℕ) → Sound s.count (turn_at s b)
 sound-at s b = turn-sound s.station s.phase s.count b
 

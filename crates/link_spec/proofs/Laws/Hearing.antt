@@ -9,7 +9,7 @@ use native.Mathlib.Omega.{arith}
 use lib.ListN.{length, drop, length-drop}
 use Rattle.link_spec.specs.declared.station.Station.{Station}
 use Rattle.link_spec.specs.declared.receiver.Receiver.{Receiver}
-use Rattle.link_spec.specs.Receiving.{Said, bad_receiver}
+use Rattle.link_spec.specs.Receiving.{Said, saying, bad_receiver}
 use Rattle.link_spec.specs.Hearing.{Told, IsFresh, Hearing, over, call}
 use Rattle.link_spec.proofs.Laws.Receiving.{received-answers, received-takes, stays-good}
 use Rattle.link_spec.proofs.Laws.Fresh.{fresh-good}
@@ -25,9 +25,10 @@ module _ (stream : List ℕ) where
       let piece = drop before stream in
       let a = received-answers s piece in
       let byte : 0 < length piece = rw (length-drop before stream) (omega arith) in
-      let taken : 0 < a.0.taken = rw (ap (λ (said : Said). said.taken) a.1) ((received-takes s piece good).some byte) in
+      let said = saying s a.0 in
+      let taken : 0 < said.taken = rw (ap (λ (said : Said). said.taken) a.1) ((received-takes s piece good).some byte) in
       let stays = ap (λ (said : Said). bad_receiver said.receiver) a.1 ∙ stays-good s piece good in
-      (_, call piece [] a.0 (sym (append-nil piece)) a.1 (rest (before + a.0.taken) a.0.receiver stays (omega arith)).1)
+      (_, call piece [] a.0 (sym (append-nil piece)) a.1 (rest (before + said.taken) said.receiver stays (omega arith)).1)
 
   some : (fuel before : ℕ) (s : Receiver) → bad_receiver s ≡ false → length stream ≤ before + fuel → Some s before
   some zero before s good left = ([], over {before = before} (omega arith))

@@ -9,7 +9,8 @@ use Prim.Native.Nat.{ℕ, ◌+◌, ◌≤◌}
 use native.Mathlib.Omega.{arith}
 use lib.ListN.{length, take, drop}
 use lib.Seq.{take-append_seam}
-use Rattle.ground.specs.declared.refusal.Counted.{Counted}
+use Rattle.std.specs.Prelude.{Result}
+use Rattle.ground.specs.declared.refusal.Refusal.{Refusal}
 use Rattle.ground.specs.Refusals.{tally}
 use Rattle.checks.specs.declared.kind.Check.TheVariants.{Fcs, Sum}
 use Rattle.checks.specs.Check.{with_check}
@@ -50,7 +51,7 @@ table-wrote (no_room fits good short) none = absurd (omega arith)
 table-wrote {content} {out} (frame fits good room) none =
     record { fits = fits; bytes = take-append_seam (image content) (drop (length (image content)) out); counts = refl }
 
-wrote : (never : Bool) («data» content out : List ℕ) (r : Counted) {out' : List ℕ} → after r out' ≡ written_unless never «data» content out
+wrote : (never : Bool) («data» content out : List ℕ) (r : Result ℕ Refusal) {out' : List ℕ} → after r out' ≡ written_unless never «data» content out
     → (tally r).refusal ≡ 0
     → Wrote «data» content (after r out')
 wrote never «data» content out r says none =
@@ -103,25 +104,25 @@ wrote-listed : {«data» content : List ℕ} {w : After} (front before rest : Li
 wrote-listed front before rest {s} {all} w listed h =
     rw w.counts (listed w.fits (subst (λ (l : List ℕ). Hearing (before ++ (l ++ rest)) s 0 all) w.bytes h))
 
-pub point-listed : (r : Counted) (identifier command : ℕ) («data» out out' before rest : List ℕ) {s : Receiver} {all : List Told}
+pub point-listed : (r : Result ℕ Refusal) (identifier command : ℕ) («data» out out' before rest : List ℕ) {s : Receiver} {all : List Told}
     → after r out' ≡ point_written identifier command «data» out
     → (tally r).refusal ≡ 0
     → IsFresh Point s
-    → Hearing (before ++ (take r.count out' ++ rest)) s 0 all
-    → Memᴰ (told_at (length before + r.count) FRAME (identifier ∷ command ∷ «data»)) all
+    → Hearing (before ++ (take (tally r).count out' ++ rest)) s 0 all
+    → Memᴰ (told_at (length before + (tally r).count) FRAME (identifier ∷ command ∷ «data»)) all
 unfolding point_written
 point-listed r identifier command «data» out out' before rest says none fr =
     wrote-listed (identifier ∷ command ∷ «data») before rest (wrote false «data» (point_content identifier command «data») out r says none)
     (λ fits. point-image-listed identifier command «data» before rest fits fr)
 
-pub addressed-listed : (r : Counted) (own address identifier command : ℕ)
+pub addressed-listed : (r : Result ℕ Refusal) (own address identifier command : ℕ)
     («data» out out' before rest : List ℕ) {s : Receiver} {all : List Told}
     → after r out' ≡ addressed_written address identifier command «data» out
     → (tally r).refusal ≡ 0
     → takes own address ≡ true
     → IsFresh (Addressed own) s
-    → Hearing (before ++ (take r.count out' ++ rest)) s 0 all
-    → Memᴰ (told_at (length before + r.count) FRAME (address ∷ identifier ∷ command ∷ «data»)) all
+    → Hearing (before ++ (take (tally r).count out' ++ rest)) s 0 all
+    → Memᴰ (told_at (length before + (tally r).count) FRAME (address ∷ identifier ∷ command ∷ «data»)) all
 unfolding addressed_written
 addressed-listed r own address identifier command «data» out out' before rest says none taken fr =
     wrote-listed (address ∷ identifier ∷ command ∷ «data») before rest

@@ -10,7 +10,9 @@ use lib.Dec.{ltb}
 use lib.ListN.{length, take, drop, get_or, length-take, drop_of_length-le}
 use lib.Seq.{take-nil}
 use borrow.Author.Tests.{lt-ltb, le-ltb, ltb-true, ltb-false, not-true}
-use Rattle.ground.specs.declared.refusal.Refusal.TheVariants.{None, BadState}
+use Rattle.std.specs.Prelude.{Option, Result, Ok, Err}
+use Rattle.ground.specs.declared.refusal.Refusal.{Refusal}
+use Rattle.ground.specs.declared.refusal.Refusal.TheVariants.{BadState}
 use Rattle.ground.specs.Refusals.{number, Keeps}
 use Rattle.ground.proofs.Laws.Choice.{cond-elim, by-test, or_elim, or-none}
 use Rattle.ground.proofs.Laws.Lists.{drop-next}
@@ -24,11 +26,11 @@ use Rattle.link_spec.specs.declared.receiver.Turn.TheVariants.{Rest, Begin, Wait
 use Rattle.link_spec.specs.declared.receiver.Receiver.{Receiver}
 use Rattle.link_spec.specs.declared.receiver.Heard.{Heard}
 use Rattle.link_spec.specs.Station.{check_on, has_address}
-use Rattle.link_spec.specs.Events.{NONE, named, happened, silent, verdict}
+use Rattle.link_spec.specs.Events.{NONE, named, happened, silent, event_told, verdict}
 use Rattle.link_spec.specs.Receiving.{so_far, turn_at, moved, has_event, outcome, outcome_at, said_of, heard, bad_receiver, not_heard, Said, saying, received, BadReceiver, over, no_station, ReceiverTable, bad_state, hears_piece}
 use Rattle.link_spec.proofs.Laws.Address.{no-station-is}
 use Rattle.link_spec.proofs.Laws.Turning.{Sound}
-use Rattle.link_spec.proofs.Laws.Events.{by-stop}
+use Rattle.link_spec.proofs.Laws.Events.{some-happens}
 use Rattle.link_spec.proofs.Laws.Fit.{outcome-length, Leaves, leaves_all, leaves-then, sound-at, leaves_at, Fit, fit-moved}
 
 -- ---- the piece byte by byte
@@ -105,23 +107,22 @@ received-keeps s piece =
     (λ bad says refused. refl) (λ good says refused. absurd (refused says)) (refused-only s piece)
 
 -- every call has a result
-answer : Receiver → Verdict → ℕ → Heard
-answer s v taken = record { refusal = None; receiver = s; event = v.event; content = s.content; length = v.length; taken = taken }
+answer : Receiver → Option Verdict → ℕ → Result Heard Refusal
+answer s v taken = Ok (record { receiver = s; told = v; content = s.content; taken = taken })
 
-heard-answers : (piece : List ℕ) (taken : ℕ) (s : Receiver) → (r : Heard) × (saying r ≡ heard taken s piece)
+heard-answers : (first : Receiver) (piece : List ℕ) (taken : ℕ) (s : Receiver) → (r : Result Heard Refusal) × (saying first r ≡ heard taken s piece)
 unfolding answer
-heard-answers =
-    heard-elim (λ (taken : ℕ) (s : Receiver) (piece : List ℕ) (said : Said). (r : Heard) × (saying r ≡ said))
+heard-answers first =
+    heard-elim (λ (taken : ℕ) (s : Receiver) (piece : List ℕ) (said : Said). (r : Result Heard Refusal) × (saying first r ≡ said))
     (λ taken s. (answer s silent taken, refl))
     (λ taken s b bs y. (answer (moved s (turn_at s b)) (outcome_at s (turn_at s b)) (taken + 1), refl))
     (λ taken s b bs said n r. r)
 
-pub received-answers : (s : Receiver) (piece : List ℕ) → (r : Heard) × (saying r ≡ received s piece)
+pub received-answers : (s : Receiver) (piece : List ℕ) → (r : Result Heard Refusal) × (saying s r ≡ received s piece)
 unfolding received
 received-answers s piece =
-    cond-elim (λ (said : Said). (r : Heard) × (saying r ≡ said)) (bad_receiver s)
-    (λ bad. (record { refusal = BadState; receiver = s; event = silent.event; content = s.content; length = 0; taken = 0 }, refl))
-    (λ good. heard-answers piece 0 s)
+    cond-elim (λ (said : Said). (r : Result Heard Refusal) × (saying s r ≡ said)) (bad_receiver s) (λ bad. (Err BadState, refl))
+    (λ good. heard-answers s piece 0 s)
 
 -- an empty piece changes nothing
 pub empty-piece : (s : Receiver) → (received s []).receiver ≡ s × (received s []).event ≡ NONE × (received s []).taken ≡ 0
@@ -151,22 +152,17 @@ received-prefix s piece good =
 -- ---- what a call takes
 
 -- a turn with an event tells something
-verdict-happens : (check : Check) (k : List ℕ) → happened (named (verdict check k).event) ≡ true
-verdict-happens check k =
-    by-stop check k (λ (v : Verdict). happened (named v.event) ≡ true) (λ few. refl) (λ least w. refl) (λ least r. refl)
-
-turn-happens : (check : Check) (k : List ℕ) (count : ℕ) (t : Turn) → Sound count t → has_event t ≡ true
-    → happened (named (outcome check k t).event) ≡ true
+turn-happens : (check : Check) (k : List ℕ) (t : Turn) → has_event t ≡ true → happened (named (event_told (outcome check k t))) ≡ true
 unfolding outcome
-turn-happens check k count Rest sound y = absurd (false≢true y)
-turn-happens check k count Begin sound y = absurd (false≢true y)
-turn-happens check k count Wait sound y = absurd (false≢true y)
-turn-happens check k count (Keep b) sound y = absurd (false≢true y)
-turn-happens check k count Stop sound y = verdict-happens check k
-turn-happens check k count (Tell why) sound y = sound
+turn-happens check k Rest y = absurd (false≢true y)
+turn-happens check k Begin y = absurd (false≢true y)
+turn-happens check k Wait y = absurd (false≢true y)
+turn-happens check k (Keep b) y = absurd (false≢true y)
+turn-happens check k Stop y = some-happens (verdict check k).event
+turn-happens check k (Tell why) y = some-happens why
 
-pub event-happens : (s : Receiver) (b : ℕ) → has_event (turn_at s b) ≡ true → happened (named (outcome_at s (turn_at s b)).event) ≡ true
-event-happens s b = turn-happens (check_on s.station) (so_far s) s.count (turn_at s b) (sound-at s b)
+pub event-happens : (s : Receiver) (b : ℕ) → has_event (turn_at s b) ≡ true → happened (named (event_told (outcome_at s (turn_at s b)))) ≡ true
+event-happens s b = turn-happens (check_on s.station) (so_far s) (turn_at s b)
 
 -- a call takes no byte back, none after the piece, at least one of a piece that has one, and all where it tells nothing
 pub record Takes (taken : ℕ) (piece : List ℕ) (said : Said) : Type 0 where

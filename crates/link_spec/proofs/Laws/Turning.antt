@@ -1,5 +1,4 @@
--- A receiver's turn follows the table of its rules, and the table leaves no other turn; a byte that is kept has room, and what is told is an
--- event.
+-- A receiver's turn follows the table of its rules, and the table leaves no other turn; a byte that is kept has room.
 -- Assumes nothing.
 use mathlib.Core.Path.{◌≡◌, refl, ◌∙◌}
 use mathlib.Core.Bool.{Bool, true, false}
@@ -20,7 +19,6 @@ use Rattle.link_spec.specs.declared.receiver.Phase.TheVariants.{Outside, Inside,
 use Rattle.link_spec.specs.declared.receiver.Turn.{Turn}
 use Rattle.link_spec.specs.declared.receiver.Turn.TheVariants.{Rest, Begin, Wait, Keep, Stop, Tell}
 use Rattle.link_spec.specs.Address.{takes}
-use Rattle.link_spec.specs.Events.{named, happened}
 use Rattle.link_spec.specs.Turning.{kept, plain as plain_turn, partner, content_byte, inside, within, turn}
 use Rattle.link_spec.specs.Rules.{Address, first, Later, on_point, after_first, ByRule, ignored, begins, stops, address, no_address, waits, plain, pair, no_pair, long_plain, long_pair}
 
@@ -124,7 +122,7 @@ rule-only {b} (no_pair over f) = rw (ne_eqb b start f, lt-leb b 0x02 over)
 rule-only {station} {count} {b} (long_plain later other full) = long-is count b full ∙ plain-turn station count b later other
 rule-only {station} {count} {b} (long_pair known full) = long-is count (0xFF - b) full ∙ pair_turn station count b known
 
--- ---- a byte that is kept has room, and what is told is an event
+-- ---- a byte that is kept has room
 
 abbrev pub Sound : ℕ → Turn → Type 0
 Sound count Rest = Unit {0}
@@ -132,7 +130,7 @@ Sound count Begin = Unit {0}
 Sound count Wait = Unit {0}
 Sound count (Keep b) = count < most_content
 Sound count Stop = Unit {0}
-Sound count (Tell why) = happened (named why) ≡ true
+Sound count (Tell why) = Unit {0}
 
 pub address_room : {station : Station} {count b : ℕ} → Address station count b true → count < most_content
 address_room (first f g t) = lit≤ tt
@@ -142,13 +140,13 @@ rule-sound (ignored f) = tt
 rule-sound (begins e) = tt
 rule-sound (stops e) = tt
 rule-sound (address a) = address_room a
-rule-sound (no_address a) = refl
+rule-sound (no_address a) = tt
 rule-sound (waits later e) = tt
 rule-sound (plain later other room) = room
 rule-sound (pair known room) = room
-rule-sound (no_pair over f) = refl
-rule-sound (long_plain later other full) = refl
-rule-sound (long_pair known full) = refl
+rule-sound (no_pair over f) = tt
+rule-sound (long_plain later other full) = tt
+rule-sound (long_pair known full) = tt
 
 pub turn-sound : (station : Station) (phase : Phase) (count b : ℕ) → Sound count (turn station phase count b)
 turn-sound station phase count b = rule-sound (turn-rule station phase count b)

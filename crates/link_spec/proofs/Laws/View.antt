@@ -17,7 +17,7 @@ use Rattle.link_spec.specs.declared.receiver.Turn.{Turn}
 use Rattle.link_spec.specs.declared.receiver.Turn.TheVariants.{Rest, Begin, Wait, Keep, Stop, Tell}
 use Rattle.link_spec.specs.declared.receiver.Receiver.{Receiver}
 use Rattle.link_spec.specs.Station.{check_on}
-use Rattle.link_spec.specs.Events.{named, verdict}
+use Rattle.link_spec.specs.Events.{named, event_told, length_told, verdict}
 use Rattle.link_spec.specs.Turning.{turn}
 use Rattle.link_spec.specs.Receiving.{so_far, turn_at, moved, has_event, outcome, outcome_at}
 use Rattle.link_spec.specs.Hearing.{Told, note}
@@ -54,7 +54,7 @@ next v (Tell why) = nowhere
 unfoldable pub noted : Station → View → ℕ → Turn → List Told
 noted station v place t =
     let o = outcome (check_on station) v.kept t in
-    note place (named o.event) (take o.length v.kept)
+    note place (named (event_told o)) (take (length_told o) v.kept)
 
 -- ---- the receiver that is seen
 
@@ -77,7 +77,7 @@ module _ {station : Station} {s : Receiver} (fit : Fit station s) where
 
   -- what an event carries is the front part of what was kept
   carried-seen : (check : Check) (t : Turn)
-      → let n = (outcome check (so_far s) t).length in
+      → let n = length_told (outcome check (so_far s) t) in
       take n (moved s t).content ≡ take n (so_far s)
   unfolding moved outcome
   carried-seen check Rest = refl
@@ -91,10 +91,10 @@ module _ {station : Station} {s : Receiver} (fit : Fit station s) where
 
   pub noted-seen : (place : ℕ) (t : Turn)
       → let o = outcome_at s t in
-      note place (named o.event) (take o.length (moved s t).content) ≡ noted station (seen s) place t
+      note place (named (event_told o)) (take (length_told o) (moved s t).content) ≡ noted station (seen s) place t
   unfolding noted
   noted-seen place t =
-      ap (note place (named (outcome_at s t).event)) (carried-seen (check_on s.station) t)
+      ap (note place (named (event_told (outcome_at s t)))) (carried-seen (check_on s.station) t)
       ∙ ap (λ (l : Station). noted l (seen s) place t) fit.on
 
 -- nothing is noted of a turn without an event

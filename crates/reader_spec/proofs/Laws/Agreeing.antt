@@ -10,21 +10,20 @@ use lib.Dec.{eqb}
 use lib.ListN.{length, take}
 use lib.Seq.{take-append_seam}
 use borrow.Author.Tests.{eqb-true, le-ltb}
+use Rattle.std.specs.Prelude.{Some, None, Result, Ok, Err}
 use Rattle.ground.specs.Laying.{onto}
 use Rattle.ground.proofs.Laws.Choice.{by-test}
 use Rattle.link_spec.specs.Limits.{most_data}
 use Rattle.request_spec.specs.declared.parameter.Parameter.{Parameter}
 use Rattle.request_spec.specs.declared.parameter.Parameter.TheVariants.{Speed, Settings, Cell}
 use Rattle.request_spec.specs.declared.command.Command.{Command}
-use Rattle.request_spec.specs.declared.command.Acceptance.{Acceptance}
-use Rattle.request_spec.specs.declared.command.Acceptance.TheVariants.{Accepted, Faulty}
+use Rattle.request_spec.specs.declared.command.Fault.{Fault}
 use Rattle.request_spec.specs.Limits.{header_length}
 use Rattle.request_spec.specs.Parameters.{length_of}
 use Rattle.request_spec.specs.Acceptance.{nack_of, FitsCommand}
 use Rattle.request_spec.specs.Replies.{NACK, sign, data_in, identifier_of, command_of, data_of, wrong_check}
 use Rattle.reader_spec.specs.declared.reader.Asking.{Asking}
 use Rattle.reader_spec.specs.declared.reader.Asking.TheVariants.{Nothing, Wrong, Right}
-use Rattle.reader_spec.specs.declared.reader.Repeat.TheVariants.{New, Stored}
 use Rattle.reader_spec.specs.Limits.{room}
 use Rattle.reader_spec.specs.Speeds.{has_speed, serves, served}
 use Rattle.reader_spec.specs.Parameters.{fresh_parameters, value_of, after_power}
@@ -166,7 +165,7 @@ module _ (s : State) (i : Input) (lent : Buffers) where
       of none = refl
       of (some e) =
           by-test
-          (λ (t : Bool). recalled s i lent (cond t (Stored (length (image_of e))) New)
+          (λ (t : Bool). recalled s i lent (cond t (Some (length (image_of e))) None)
           ≡ cond t (recalled_as s lent (some e)) (judged_by s.fast))
           (repeats (some e) (identifier_of i.content) (command_of i.content)) (λ _. refl) (λ _. refl)
 
@@ -194,7 +193,7 @@ module _ (alone : Bool) (s : State) (i : Input) (lent : Buffers) (whole : length
     -- steps 4 to 6
     executed-agrees : (command : Command) → FitsCommand command (data_of i.content) → serves s.fast command (data_of i.content) ≡ true
         → Agrees alone s lent.store known
-        → StepAgrees alone (judged_history known i (Accepted command))
+        → StepAgrees alone (judged_history known i (Ok command))
         (bytes_of i.content (some (reply_to (value_of s.parameters) command i.header i.antenna))) false
         (executed s i lent command)
     executed-agrees command carried able a =
@@ -215,11 +214,11 @@ module _ (alone : Bool) (s : State) (i : Input) (lent : Buffers) (whole : length
           sends = λ _. sent-out (image_of e) (onto (image_of e) lent.store) lent.out;
         }
 
-    judged-agrees : (k : Acceptance) → served s.fast (command_of i.content) (data_of i.content) ≡ k
+    judged-agrees : (k : Result Command Fault) → served s.fast (command_of i.content) (data_of i.content) ≡ k
         → Agrees alone s lent.store known
         → StepAgrees alone (judged_history known i k) (bytes_of i.content (some (judged_reply known i k))) false (judged s i lent k)
-    judged-agrees (Faulty fault) asked a = nack-agrees (identifier_of i.content) (nack_of fault) a
-    judged-agrees (Accepted command) asked a =
+    judged-agrees (Err fault) asked a = nack-agrees (identifier_of i.content) (nack_of fault) a
+    judged-agrees (Ok command) asked a =
         executed-agrees command (served-fits s.fast (command_of i.content) (data_of i.content) asked)
         (served-was s.fast (data_of i.content) (asks_for i) asked).1 a
 

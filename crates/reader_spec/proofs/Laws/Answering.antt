@@ -10,6 +10,7 @@ use lib.Dec.{eqb, ltb, leb}
 use lib.ListN.{length, drop}
 use lib.Seq.{drop-append_seam}
 use borrow.Author.Tests.{ltb-true, ltb-false, lt-ltb, le-ltb, le-leb, lt-leb, leb-false}
+use Rattle.std.specs.Prelude.{Option, Some, None, Result, Ok, Err}
 use Rattle.ground.specs.declared.refusal.Refusal.{Refusal}
 use Rattle.ground.specs.declared.refusal.Refusal.TheVariants.{NoRoom, TooLong, BadState as BAD, BadRequest}
 use Rattle.ground.specs.Refusals.{number, Keeps, AnswersOnly}
@@ -17,15 +18,13 @@ use Rattle.ground.proofs.Laws.Choice.{cond-elim, or-none, by-test}
 use Rattle.link_spec.specs.Limits.{most_data}
 use Rattle.link_spec.specs.Events.{Name, NONE, FRAME, CHECK, SHORT, LONG, PAIR, ADDR}
 use Rattle.request_spec.specs.declared.parameter.Parameter.TheVariants.{Speed}
-use Rattle.request_spec.specs.declared.command.Acceptance.{Acceptance}
-use Rattle.request_spec.specs.declared.command.Acceptance.TheVariants.{Accepted, Faulty}
+use Rattle.request_spec.specs.declared.command.Command.{Command}
+use Rattle.request_spec.specs.declared.command.Fault.{Fault}
 use Rattle.request_spec.specs.Limits.{most_antenna}
 use Rattle.request_spec.specs.Acceptance.{nack_of}
 use Rattle.request_spec.specs.Replies.{NACK, sign, identifier_of, command_of, data_of, wrong_check}
 use Rattle.reader_spec.specs.declared.reader.Asking.{Asking}
 use Rattle.reader_spec.specs.declared.reader.Asking.TheVariants.{Nothing, Wrong, Right}
-use Rattle.reader_spec.specs.declared.reader.Repeat.{Repeat}
-use Rattle.reader_spec.specs.declared.reader.Repeat.TheVariants.{New, Stored}
 use Rattle.reader_spec.specs.Limits.{room, least_front, most_front}
 use Rattle.reader_spec.specs.Speeds.{is_above, served}
 use Rattle.reader_spec.specs.Parameters.{with_value, after_power}
@@ -82,7 +81,7 @@ powered-keeps s =
 
 -- ---- steps 3 to 6, by what the memory says
 
-pub framed-by : {k : Repeat} (s : State) (i : Input) (lent : Buffers)
+pub framed-by : {k : Option ℕ} (s : State) (i : Input) (lent : Buffers)
     → find s.last (identifier_of i.content) (command_of i.content) ≡ k
     → framed s i lent ≡ recalled s i lent k
 unfolding framed
@@ -253,14 +252,14 @@ module _ (s : State) (i : Input) (lent : Buffers) where
   nack-kept : {t : State} (identifier n : ℕ) → Kept (nacked t identifier n lent)
   nack-kept identifier n = record { none = refl; store = refl; out = drop-append_seam (reply_image identifier sign (NACK n)) _ }
 
-  judged-kept : (k : Acceptance) → Kept (judged s i lent k)
-  judged-kept (Accepted command) =
+  judged-kept : (k : Result Command Fault) → Kept (judged s i lent k)
+  judged-kept (Ok command) =
       record { none = refl; store = drop-append_seam (reply_bytes s i lent command) _; out = drop-append_seam (reply_bytes s i lent command) _ }
-  judged-kept (Faulty fault) = nack-kept (identifier_of i.content) (nack_of fault)
+  judged-kept (Err fault) = nack-kept (identifier_of i.content) (nack_of fault)
 
-  recalled-kept : (k : Repeat) → Kept (recalled s i lent k)
-  recalled-kept (Stored length) = record { none = refl; store = refl; out = refl }
-  recalled-kept New = judged-kept (served s.fast (command_of i.content) (data_of i.content))
+  recalled-kept : (k : Option ℕ) → Kept (recalled s i lent k)
+  recalled-kept (Some length) = record { none = refl; store = refl; out = refl }
+  recalled-kept None = judged-kept (served s.fast (command_of i.content) (data_of i.content))
 
   step_kept : (asked : Asking) → Kept (stepped s i lent asked)
   unfolding framed

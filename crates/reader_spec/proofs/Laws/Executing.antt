@@ -12,7 +12,6 @@ use Rattle.link_spec.specs.Limits.{most_data}
 use Rattle.request_spec.specs.declared.parameter.Parameter.{Parameter}
 use Rattle.request_spec.specs.declared.parameter.Parameter.TheVariants.{Speed, Settings, Cell}
 use Rattle.request_spec.specs.declared.command.Command.{Command}
-use Rattle.request_spec.specs.declared.command.Command.TheVariants as Command
 use Rattle.request_spec.specs.Limits.{most_antenna, header_length}
 use Rattle.request_spec.specs.Parameters.{parameter_code, length_of}
 use Rattle.request_spec.specs.Cards.{is_code}

@@ -8,10 +8,10 @@ use lib.Dec.{eqb}
 use lib.ListN.{take}
 use borrow.Author.Tests.{eqb-true}
 use Prim.Native.Nat.{ℕ}
-use Rattle.ground.specs.Refusals.{number}
+use Rattle.std.specs.Prelude.{Result, Ok, Err}
 use Rattle.ground.proofs.Laws.Choice.{cond-elim, by-test}
-use Rattle.request_spec.specs.declared.command.Acceptance.{Acceptance}
-use Rattle.request_spec.specs.declared.command.Acceptance.TheVariants.{Accepted, Faulty}
+use Rattle.request_spec.specs.declared.command.Command.{Command}
+use Rattle.request_spec.specs.declared.command.Fault.{Fault}
 use Rattle.request_spec.specs.Acceptance.{is_accepted}
 use Rattle.reader_spec.specs.declared.reader.Asking.{Asking}
 use Rattle.reader_spec.specs.declared.reader.Asking.TheVariants.{Nothing, Wrong, Right}
@@ -19,8 +19,8 @@ use Rattle.reader_spec.specs.declared.reader.Reader.{Reader}
 use Rattle.reader_spec.specs.State.{State, state_of}
 use Rattle.reader_spec.specs.Asking.{asking}
 use Rattle.reader_spec.specs.Sending.{Buffers}
-use Rattle.reader_spec.specs.Answering.{Input, Answered, answer_says, judged, stepped}
-use Rattle.reader_spec.specs.Sessions.{Execution, History, repeats_last, served_of, judged_history, next_history_as, next_history, is_executed_as, is_executed, remembers, StoreKept, Call, Done, ReaderSession, called, Idle, rests, passes}
+use Rattle.reader_spec.specs.Answering.{Input, Answered, judged, stepped}
+use Rattle.reader_spec.specs.Sessions.{Execution, History, repeats_last, served_of, judged_history, next_history_as, next_history, is_executed_as, is_executed, remembers, StoreKept, Call, reader_after, outcome, Done, ReaderSession, called, Idle, rests, passes}
 use Rattle.reader_spec.specs.Promises.{Unchanged, Same}
 use Rattle.reader_spec.proofs.Laws.Answering.{row-elim, steps-fine}
 use Rattle.reader_spec.proofs.Laws.Agreeing.{memory_of, recalled_as, framed-told}
@@ -28,9 +28,9 @@ use Rattle.reader_spec.proofs.Laws.Sessions.{session-agrees, loose-call}
 
 -- ---- such a call tells nothing new
 
-judged-nothing : (h : History) (i : Input) (k : Acceptance) → is_accepted k ≡ false → judged_history h i k ≡ h
-judged-nothing h i (Faulty fault) idle = refl
-judged-nothing h i (Accepted command) idle = absurd (true≢false idle)
+judged-nothing : (h : History) (i : Input) (k : Result Command Fault) → is_accepted k ≡ false → judged_history h i k ≡ h
+judged-nothing h i (Err fault) idle = refl
+judged-nothing h i (Ok command) idle = absurd (true≢false idle)
 
 executes-nothing-as : (h : History) (i : Input) (asked : Asking) → is_executed_as h i asked ≡ false → next_history_as h i asked ≡ h
 executes-nothing-as h i Nothing idle = refl
@@ -45,9 +45,9 @@ executes-nothing h i = executes-nothing-as h i (asking i.event)
 -- ---- and changes neither the state nor the store
 
 module _ (s : State) (i : Input) (lent : Buffers) where
-  judged-keeps : (k : Acceptance) → is_accepted k ≡ false → Unchanged s lent (judged s i lent k)
-  judged-keeps (Faulty fault) idle = record { state = refl; store = refl }
-  judged-keeps (Accepted command) idle = absurd (true≢false idle)
+  judged-keeps : (k : Result Command Fault) → is_accepted k ≡ false → Unchanged s lent (judged s i lent k)
+  judged-keeps (Err fault) idle = record { state = refl; store = refl }
+  judged-keeps (Ok command) idle = absurd (true≢false idle)
 
   recalled-keeps : (last : Option Execution) → Unchanged s lent (recalled_as s lent last)
   recalled-keeps none = record { state = refl; store = refl }
@@ -66,7 +66,7 @@ module _ (s : State) (i : Input) (lent : Buffers) where
 
 pub call-keeps : {among alone : Bool} {h : History} {s : Reader} {held : List ℕ} → ReaderSession among s held h → (c : Call alone h s held)
     → (Done c → is_executed h c.input ≡ false)
-    → Unchanged (state_of s) c.lent (answer_says c.answer c.left)
+    → Unchanged (state_of s) c.lent (outcome c)
 call-keeps {h = h} {s = s} se c idle =
     subst⁻¹ (Unchanged (state_of s) c.lent) c.says
     (row-elim (state_of s) c.input c.lent
@@ -91,9 +91,9 @@ idle-keeps se rests = record { session = se; state = refl; store = λ _. refl }
 idle-keeps {alone} {h = h} se (passes {t} {kept} i c idle) =
     let same = idle-keeps se i in
     let u = call-keeps same.session c idle in
-    let told = told_same (number c.answer.refusal) (λ done. executes-nothing h c.input (idle done)) in
+    let told = told_same ((outcome c).refusal) (λ done. executes-nothing h c.input (idle done)) in
     record {
-      session = subst (ReaderSession false c.answer.reader c.left.store) told (called same.session (loose-call c));
+      session = subst (ReaderSession false (reader_after c) c.left.store) told (called same.session (loose-call c));
       state = u.state ∙ same.state;
       store = λ single. ap (take (remembers h.last)) u.store ∙ kept_same alone h kept c.lent.store c.kept single ∙ same.store single;
     }

@@ -18,7 +18,7 @@ use Rattle.reader_spec.specs.State.{state_of}
 use Rattle.reader_spec.specs.Asking.{asking}
 use Rattle.reader_spec.specs.Replies.{reply_image, reply_to}
 use Rattle.reader_spec.specs.Answering.{Answered, reply_bytes}
-use Rattle.reader_spec.specs.Sessions.{Execution, image_of, History, repeats_last, next_history, is_executed, remembers, Call, Done, ReaderSession, Idle}
+use Rattle.reader_spec.specs.Sessions.{Execution, image_of, History, repeats_last, next_history, is_executed, remembers, Call, reader_after, Done, ReaderSession, Idle}
 use Rattle.reader_spec.specs.Promises.{Repeated}
 use Rattle.reader_spec.proofs.Laws.Sessions.{session-agrees, session-on, is-frame, is-new, is-accepted, served-asked, call-executed, executed-sends, repeat-stored, loose-call}
 use Rattle.reader_spec.proofs.Laws.Idle.{idle-keeps}
@@ -28,7 +28,7 @@ module _ {s : Reader} {held : List ℕ} {h : History} (se : ReaderSession false 
   abbrev i : History
   i = next_history h first.input
 
-  pub executed-repeats : {t : Reader} {kept : List ℕ} → Idle true i first.answer.reader first.left.store t kept
+  pub executed-repeats : {t : Reader} {kept : List ℕ} → Idle true i (reader_after first) first.left.store t kept
       → (again : Call true i t kept)
       → Done again
       → asking again.input.event ≡ Right

@@ -15,7 +15,6 @@ use Rattle.link_spec.proofs.Laws.Frame.{length-point}
 use Rattle.request_spec.specs.declared.parameter.Parameter.{Parameter}
 use Rattle.request_spec.specs.declared.command.Card.{Card}
 use Rattle.request_spec.specs.declared.command.Command.{Command}
-use Rattle.request_spec.specs.declared.command.Command.TheVariants as Command
 use Rattle.request_spec.specs.Cards.{is_code}
 use Rattle.request_spec.specs.Replies.{Reply, ACK, NACK, DATA, no_card}
 use Rattle.reader_spec.specs.Limits.{room}

@@ -9,24 +9,24 @@ use native.Mathlib.Omega.{arith}
 use lib.Dec.{eqb}
 use lib.ListN.{length, take}
 use borrow.Author.Tests.{eqb-false}
+use Rattle.std.specs.Prelude.{Result, Ok, Err}
+use Rattle.ground.specs.declared.refusal.Refusal.{Refusal}
 use Rattle.ground.specs.Refusals.{number}
 use Rattle.ground.proofs.Laws.Choice.{cond-elim, by-test}
 use Rattle.link_spec.specs.Events.{FRAME, CHECK}
-use Rattle.request_spec.specs.declared.command.Acceptance.{Acceptance}
-use Rattle.request_spec.specs.declared.command.Acceptance.TheVariants.{Accepted, Faulty}
 use Rattle.request_spec.specs.declared.command.Command.{Command}
+use Rattle.request_spec.specs.declared.command.Fault.{Fault}
 use Rattle.request_spec.specs.Acceptance.{is_accepted}
 use Rattle.request_spec.specs.Replies.{NACK, sign, wrong_check, identifier_of, command_of, data_of}
 use Rattle.reader_spec.specs.declared.reader.Asking.{Asking}
 use Rattle.reader_spec.specs.declared.reader.Asking.TheVariants.{Nothing, Wrong, Right}
 use Rattle.reader_spec.specs.declared.reader.Reader.{Reader}
-use Rattle.reader_spec.specs.declared.reader.Powered.{Powered}
 use Rattle.reader_spec.specs.State.{State, state_of, fresh_state, bad_state}
 use Rattle.reader_spec.specs.Asking.{asking}
 use Rattle.reader_spec.specs.Replies.{reply_image, reply_to}
 use Rattle.reader_spec.specs.Sending.{sent}
-use Rattle.reader_spec.specs.Answering.{PoweredOn, powering, powered_on, Input, Answered, LentWell, answer_says, executed, judged, stepped}
-use Rattle.reader_spec.specs.Sessions.{Execution, image_of, History, begun, powered_by, repeats, is_frame, bytes_of, repeats_last, asks_for, served_of, judged_history, next_history_as, next_history, next_history_by, judged_reply, to_send, is_repeat, is_executed, remembers, Call, Done, bytes_sent, ReaderSession, begins, powered, called, made_fast}
+use Rattle.reader_spec.specs.Answering.{PoweredOn, powering, powered_on, Input, Answered, LentWell, executed, judged, stepped}
+use Rattle.reader_spec.specs.Sessions.{Execution, image_of, History, begun, powered_by, repeats, is_frame, bytes_of, repeats_last, asks_for, served_of, judged_history, next_history_as, next_history, next_history_by, judged_reply, to_send, is_repeat, is_executed, remembers, Call, reader_after, outcome, Done, bytes_sent, ReaderSession, begins, powered, called, made_fast}
 use Rattle.reader_spec.specs.Promises.{Recalls}
 use Rattle.reader_spec.proofs.Laws.Speeds.{served-was}
 use Rattle.reader_spec.proofs.Laws.State.{reader_with, state-back}
@@ -42,7 +42,7 @@ record Follows (alone : Bool) (h : History) (i : Input) (a : Answered) : Type 0 
   sends : a.refusal ≡ 0 → (is_repeat h i ≡ true → alone ≡ true) → sent a.buffer a.length a.left ≡ to_send h i
 
 call-follows : {alone : Bool} {h : History} {s : Reader} {held : List ℕ} → Agrees alone (state_of s) held h → (c : Call alone h s held)
-    → Follows alone h c.input (answer_says c.answer c.left)
+    → Follows alone h c.input (outcome c)
 call-follows {alone} {h} {s} a c =
     let i = c.input in
     let lent = agrees-lent alone a c.kept in
@@ -73,9 +73,9 @@ next-fast h i n = cond-elim Same (eqb n 0) (λ _. next (asking i.event)) (λ _. 
     Same : History → Type 0
     Same k = k.fast ≡ h.fast
 
-    judged-fast : (k : Acceptance) → Same (judged_history h i k)
-    judged-fast (Accepted command) = refl
-    judged-fast (Faulty fault) = refl
+    judged-fast : (k : Result Command Fault) → Same (judged_history h i k)
+    judged-fast (Ok command) = refl
+    judged-fast (Err fault) = refl
 
     next : (asked : Asking) → Same (next_history_as h i asked)
     next Nothing = refl
@@ -86,9 +86,9 @@ next-fast h i n = cond-elim Same (eqb n 0) (λ _. next (asking i.event)) (λ _. 
 pub told-made : {alone : Bool} {s : Reader} {held : List ℕ} {h : History} (se : ReaderSession alone s held h) → h.fast ≡ made_fast se
 unfolding made_fast
 told-made (begins r store fast is) = refl
-told-made (powered {h = h} se r says) =
-    cond-elim (λ (k : History). k.fast ≡ h.fast) (eqb (number r.refusal) 0) (λ _. refl) (λ _. refl) ∙ told-made se
-told-made (called {h = h} se c) = next-fast h c.input (number c.answer.refusal) ∙ told-made se
+told-made (powered {s} {h = h} se r says) =
+    cond-elim (λ (k : History). k.fast ≡ h.fast) (eqb (powering s r).refusal 0) (λ _. refl) (λ _. refl) ∙ told-made se
+told-made (called {h = h} se c) = next-fast h c.input ((outcome c).refusal) ∙ told-made se
 
 pub made-fast : {alone : Bool} {s : Reader} {held : List ℕ} {h : History} (se : ReaderSession alone s held h) → s.fast ≡ made_fast se
 made-fast se = (session-agrees se).fast ∙ told-made se
@@ -107,9 +107,9 @@ pub session-good : {alone : Bool} {s : Reader} {held : List ℕ} {h : History} �
 session-good se = agrees-good (session-agrees se)
 
 -- nor does a power-on
-pub power-fine : {alone : Bool} {s : Reader} {held : List ℕ} {h : History} → ReaderSession alone s held h → (r : Powered)
-    → powering r ≡ powered_on (state_of s)
-    → number r.refusal ≡ 0
+pub power-fine : {alone : Bool} {s : Reader} {held : List ℕ} {h : History} → ReaderSession alone s held h → (r : Result Reader Refusal)
+    → powering s r ≡ powered_on (state_of s)
+    → (powering s r).refusal ≡ 0
 power-fine {s = s} se r says = ap (λ (p : PoweredOn). p.refusal) (says ∙ powers-on (state_of s) (session-good se))
 
 module _ {alone : Bool} {s : Reader} {held : List ℕ} {h : History} (se : ReaderSession alone s held h) (c : Call alone h s held) (done : Done c)
@@ -119,22 +119,22 @@ module _ {alone : Bool} {s : Reader} {held : List ℕ} {h : History} (se : Reade
     session-sends = (call-follows (session-agrees se) c).sends done
 
     -- a call that was not refused goes on with what is told next
-    pub session-on : ReaderSession alone c.answer.reader c.left.store (next_history h c.input)
+    pub session-on : ReaderSession alone (reader_after c) c.left.store (next_history h c.input)
     session-on =
-        subst (λ (n : ℕ). ReaderSession alone c.answer.reader c.left.store (next_history_by h c.input n)) done (called se c)
+        subst (λ (n : ℕ). ReaderSession alone (reader_after c) c.left.store (next_history_by h c.input n)) done (called se c)
 
     -- to a CHECK NACK 1
     pub check-nacked : c.input.event ≡ CHECK → bytes_sent c ≡ reply_image (identifier_of c.input.content) sign (NACK wrong_check)
     check-nacked is = rw is at session-sends (λ again. absurd (true≢false (sym again)))
 
     -- to a FRAME that repeats nothing the reply to what it asks for, and NACK 2 or 3 where it is not accepted
-    pub session-replies : {k : Acceptance} → c.input.event ≡ FRAME → repeats_last h c.input ≡ false → served_of h c.input ≡ k
+    pub session-replies : {k : Result Command Fault} → c.input.event ≡ FRAME → repeats_last h c.input ≡ false → served_of h c.input ≡ k
         → bytes_sent c
         ≡ reply_image (identifier_of c.input.content) (command_of c.input.content) (judged_reply h c.input k)
     session-replies is new asked = rw (is, new, asked) at session-sends (λ again. absurd (true≢false (sym again)))
 
     -- it did the steps, with good buffers
-    pub call-steps : answer_says c.answer c.left ≡ stepped (state_of s) c.input c.lent (asking c.input.event)
+    pub call-steps : outcome c ≡ stepped (state_of s) c.input c.lent (asking c.input.event)
         × LentWell c.input c.lent
     call-steps =
         subst⁻¹ P c.says
@@ -145,7 +145,7 @@ module _ {alone : Bool} {s : Reader} {held : List ℕ} {h : History} (se : Reade
         P a = a.refusal ≡ 0 → a ≡ stepped (state_of s) c.input c.lent (asking c.input.event) × LentWell c.input c.lent
 
     module _ (asks : asking c.input.event ≡ Right) where
-      pub call-framed : answer_says c.answer c.left
+      pub call-framed : outcome c
           ≡ cond (repeats_last h c.input) (recalled_as (state_of s) c.lent h.last) (judged (state_of s) c.input c.lent (served_of h c.input))
       call-framed =
           call-steps.0 ∙ ap (stepped (state_of s) c.input c.lent) asks
@@ -156,7 +156,7 @@ module _ {alone : Bool} {s : Reader} {held : List ℕ} {h : History} (se : Reade
       repeat-stored same = of h.last refl same (call-framed ∙ rw same)
         where
           of : (last : Option Execution) → h.last ≡ last → repeats last (identifier_of c.input.content) (command_of c.input.content) ≡ true
-              → answer_says c.answer c.left ≡ recalled_as (state_of s) c.lent h.last
+              → outcome c ≡ recalled_as (state_of s) c.lent h.last
               → Recalls c
           of none is same says = absurd (true≢false (sym same))
           of (some e) is same says =
@@ -193,28 +193,28 @@ module _ {alone : Bool} {s : Reader} {held : List ℕ} {h : History} (se : Reade
       no-repeat =
           ap (λ (t : Bool). is_frame (asking c.input.event) && t) is-new ∙ and-false (is_frame (asking c.input.event))
 
-      is-served : (command : Command) × (served_of h c.input ≡ Accepted command)
+      is-served : (command : Command) × (served_of h c.input ≡ Ok command)
       is-served =
           of (served_of h c.input) refl
           ((and-eq-true_iff (not (repeats_last h c.input)) (is_accepted (served_of h c.input))).0 parts.1).1
         where
-          of : (k : Acceptance) → served_of h c.input ≡ k → is_accepted k ≡ true → (command : Command) × (served_of h c.input ≡ Accepted command)
-          of (Accepted command) is fine = (command, is)
-          of (Faulty fault) is fine = absurd (false≢true fine)
+          of : (k : Result Command Fault) → served_of h c.input ≡ k → is_accepted k ≡ true → (command : Command) × (served_of h c.input ≡ Ok command)
+          of (Ok command) is fine = (command, is)
+          of (Err fault) is fine = absurd (false≢true fine)
 
       -- so the reader does what it may be asked for
       pub served-asked : served_of h c.input ≡ asks_for c.input
       served-asked = is-served.1 ∙ sym (served-was h.fast (data_of c.input.content) (asks_for c.input) is-served.1).0
 
-      pub is-accepted : (command : Command) × (asks_for c.input ≡ Accepted command)
+      pub is-accepted : (command : Command) × (asks_for c.input ≡ Ok command)
       is-accepted = (is-served.0, sym served-asked ∙ is-served.1)
 
-      pub call-executed : {command : Command} → asks_for c.input ≡ Accepted command
-          → answer_says c.answer c.left ≡ executed (state_of s) c.input c.lent command
+      pub call-executed : {command : Command} → asks_for c.input ≡ Ok command
+          → outcome c ≡ executed (state_of s) c.input c.lent command
       call-executed asked = call-framed is-frame ∙ rw (is-new, served-asked ∙ asked)
 
       -- and its reply is sent
-      pub executed-sends : {command : Command} → asks_for c.input ≡ Accepted command
+      pub executed-sends : {command : Command} → asks_for c.input ≡ Ok command
           → bytes_sent c ≡ bytes_of c.input.content (some (reply_to h.value command c.input.header c.input.antenna))
       executed-sends asked =
           let sends : bytes_sent c ≡ to_send h c.input = session-sends (λ again. absurd (true≢false (sym again ∙ no-repeat))) in

@@ -6,14 +6,12 @@ use mathlib.Core.List.{List}
 use mathlib.Core.Option.{none}
 use Prim.Native.Nat.{ℕ}
 use lib.ListN.{length}
+use Rattle.std.specs.Prelude.{Result, Ok, Err}
 use Rattle.ground.specs.declared.refusal.Refusal.{Refusal}
-use Rattle.ground.specs.declared.refusal.Refusal.TheVariants.{None}
-use Rattle.ground.specs.Refusals.{number}
 use Rattle.request_spec.specs.Limits.{header_length}
 use Rattle.reader_spec.specs.declared.reader.Buffer.{Buffer}
 use Rattle.reader_spec.specs.declared.reader.Buffer.TheVariants.{Out, Store}
 use Rattle.reader_spec.specs.declared.reader.Reader.{Reader}
-use Rattle.reader_spec.specs.declared.reader.Powered.{Powered}
 use Rattle.reader_spec.specs.declared.reader.Answer.{Answer}
 use Rattle.reader_spec.specs.Parameters.{after_power}
 use Rattle.reader_spec.specs.State.{state_with, state_of}
@@ -34,17 +32,17 @@ buffer-back : (name : BufferName) → buffer_named (buffer_with name) ≡ name
 buffer-back OUT = refl
 buffer-back STORE = refl
 
--- an answer that says this
-pub record Result (a : Answered) : Type 0 where
-  pub answer : Answer
-  pub says : answer_says answer a.left ≡ a
+-- a result that says this
+pub record Said (s : Reader) (a : Answered) : Type 0 where
+  pub answer : Result Answer Refusal
+  pub says : answer_says s answer a.left ≡ a
 
-result : (a : Answered) (why : Refusal) → number why ≡ a.refusal → Result a
-result a why is =
+said : (s : Reader) (a : Answered) → a.refusal ≡ 0 → Said s a
+said s a fine =
     record {
-      answer = record { refusal = why; reader = reader_with a.state; buffer = buffer_with a.buffer; length = a.length };
+      answer = Ok (record { reader = reader_with a.state; buffer = buffer_with a.buffer; length = a.length });
       says = λ i. record {
-        refusal = is i;
+        refusal = sym fine i;
         state = state-back a.state i;
         buffer = buffer-back a.buffer i;
         length = a.length;
@@ -52,10 +50,10 @@ result a why is =
       };
     }
 
-pub answer-some : (s : Reader) (i : Input) (lent : Buffers) → Result (answered (state_of s) i lent)
+pub answer-some : (s : Reader) (i : Input) (lent : Buffers) → Said s (answered (state_of s) i lent)
 answer-some s i lent =
-    row-elim (state_of s) i lent Result (λ why _. result _ why refl)
-    (λ well _. result _ None (sym (steps-fine (state_of s) i lent (asking i.event))))
+    row-elim (state_of s) i lent (Said s) (λ why _. record { answer = Err why; says = refl })
+    (λ well _. said s _ (steps-fine (state_of s) i lent (asking i.event)))
 
 -- so every call can be made
 pub call-some : {alone : Bool} {h : History} {s : Reader} {held : List ℕ} (i : Input) (lent : Buffers) → StoreKept alone h held lent.store
@@ -88,7 +86,7 @@ call-fine {s} se c well fit =
 
 -- no power-on is
 pub power-some : {alone : Bool} {s : Reader} {held : List ℕ} {h : History} → ReaderSession alone s held h
-    → (r : Powered) × (powering r ≡ powered_on (state_of s)) × (number r.refusal ≡ 0)
+    → (r : Result Reader Refusal) × (powering s r ≡ powered_on (state_of s)) × ((powering s r).refusal ≡ 0)
 power-some {s} se =
     let left = state_with (after_power s.parameters) s.fast none in
-    (record { refusal = None; reader = reader_with left }, sym (powers-on (state_of s) (session-good se)), refl)
+    (Ok (reader_with left), sym (powers-on (state_of s) (session-good se)), refl)

@@ -7,12 +7,12 @@ use mathlib.Core.List.{List, [], ◌∷◌}
 use Prim.Native.Nat.{ℕ, ◌≤◌}
 use native.Mathlib.Omega.{arith}
 use borrow.Author.Tests.{ltb-true, ltb-false, lt-ltb, le-ltb}
+use Rattle.std.specs.Prelude.{Result, Ok, Err}
 use Rattle.ground.proofs.Laws.Choice.{by-test, between-true, between_is, no-case}
 use Rattle.request_spec.specs.declared.parameter.Parameter.TheVariants.{Speed, Settings, Cell}
 use Rattle.request_spec.specs.declared.command.Command.{Command}
 use Rattle.request_spec.specs.declared.command.Command.TheVariants.{Write}
-use Rattle.request_spec.specs.declared.command.Acceptance.{Acceptance}
-use Rattle.request_spec.specs.declared.command.Acceptance.TheVariants.{Accepted, Faulty}
+use Rattle.request_spec.specs.declared.command.Fault.{Fault}
 use Rattle.request_spec.specs.declared.command.Fault.TheVariants.{BadData}
 use Rattle.request_spec.specs.Parameters.{is_speed, of_speed}
 use Rattle.request_spec.specs.Acceptance as table
@@ -60,22 +60,22 @@ powered-has fast v has = slow-has fast (powered_speed v) (powered-slow fast v ha
 -- ---- what a reader does of what a request may be
 
 module _ (fast : Bool) («data» : List ℕ) where
-  abbrev IsServed : Acceptance → Type 0
-  IsServed (Accepted command) = serves fast command «data» ≡ true
-  IsServed (Faulty fault) = Unit {0}
+  abbrev IsServed : Result Command Fault → Type 0
+  IsServed (Ok command) = serves fast command «data» ≡ true
+  IsServed (Err fault) = Unit {0}
 
   -- what is done was accepted
-  pub served-was : (k : Acceptance) {command : Command} → served_as fast «data» k ≡ Accepted command
-      → (k ≡ Accepted command) × (serves fast command «data» ≡ true)
-  served-was (Faulty fault) is = no-case (cc is)
-  served-was (Accepted other) {command} is =
+  pub served-was : (k : Result Command Fault) {command : Command} → served_as fast «data» k ≡ Ok command
+      → (k ≡ Ok command) × (serves fast command «data» ≡ true)
+  served-was (Err fault) is = no-case (cc is)
+  served-was (Ok other) {command} is =
       by-test
-      (λ (t : Bool). serves fast other «data» ≡ t → cond t (Accepted other) (Faulty BadData) ≡ Accepted command
-      → (Accepted other ≡ Accepted command) × (serves fast command «data» ≡ true))
+      (λ (t : Bool). serves fast other «data» ≡ t → cond t (Ok other) (Err BadData) ≡ Ok command
+      → (◌≡◌ {A = Result Command Fault} (Ok other) (Ok command)) × (serves fast command «data» ≡ true))
       (serves fast other «data») (λ _ able is. (is, subst IsServed is able)) (λ _ _ is. no-case (cc is)) refl is
 
 -- so its data is that of the command
-pub served-fits : (fast : Bool) (code : ℕ) («data» : List ℕ) {command : Command} → served fast code «data» ≡ Accepted command
+pub served-fits : (fast : Bool) (code : ℕ) («data» : List ℕ) {command : Command} → served fast code «data» ≡ Ok command
     → FitsCommand command «data»
 served-fits fast code «data» done = fits-command (accepts code «data» (served-was fast «data» (acceptance code «data») done).0)
 
@@ -100,15 +100,15 @@ serves-row fast table.motorola few = refl
 
 pub served-row : (fast : Bool) {code : ℕ} {«data» : List ℕ} {command : Command} → Accepts code «data» command
     → (fast ≡ false → WritesAbove code «data» → ⊥)
-    → served fast code «data» ≡ Accepted command
+    → served fast code «data» ≡ Ok command
 served-row fast {«data» = «data»} {command = command} row few =
     ap (served_as fast «data») (accepted row)
-    ∙ ap (λ (t : Bool). cond t (Accepted command) (Faulty BadData)) (serves-row fast row few)
+    ∙ ap (λ (t : Bool). cond t (Ok command) (Err BadData)) (serves-row fast row few)
 
 -- such a write may be a request, and to a slow reader it is bad data
 pub above-row : {code : ℕ} {«data» : List ℕ} → WritesAbove code «data» → Accepts code «data» (Write Speed)
 above-row (writes_above {v} least most) = table.write Speed (v ∷ []) (of_speed {v = v} (omega (arith, least)) most)
 
-pub above-faulty : {code : ℕ} {«data» : List ℕ} → WritesAbove code «data» → served false code «data» ≡ Faulty BadData
+pub above-faulty : {code : ℕ} {«data» : List ℕ} → WritesAbove code «data» → served false code «data» ≡ Err BadData
 above-faulty (writes_above {v} least most) =
     ap (served_as false (0x02 ∷ v ∷ [])) (accepted (above-row (writes_above least most))) ∙ rw (lt-ltb 7 v least, and-false (is_speed v))

@@ -7,10 +7,11 @@ use mathlib.Mathlib.Logic.Function.Defs.{LeftInverse-Injective}
 use Prim.Native.Nat.{◌≤◌}
 use lib.Dec.{leb}
 use borrow.Author.Tests.{ltb-true, lt-ltb, leb-true, leb-false, lt-leb}
+use Rattle.std.specs.Prelude as std
+use Rattle.std.specs.Prelude.{None, Some}
 use Rattle.ground.proofs.Laws.Choice.{by-test, or_elim, or-none}
 use Rattle.request_spec.specs.Parameters.{is_speed}
-use Rattle.reader_spec.specs.declared.reader.Memory.{Memory}
-use Rattle.reader_spec.specs.declared.reader.Memory.TheVariants as memory
+use Rattle.reader_spec.specs.declared.reader as declared
 use Rattle.reader_spec.specs.declared.reader.Reader.{Reader}
 use Rattle.reader_spec.specs.Limits.{room}
 use Rattle.reader_spec.specs.Speeds.{is_above, has_speed}
@@ -19,13 +20,13 @@ use Rattle.reader_spec.specs.State.{Last, State, remembered, state_of, too_far, 
 -- ---- a reader and its state
 
 -- the memory that says this
-abbrev memory_with : Option Last → Memory
-memory_with none = memory.None
-memory_with (some last) = memory.Last last.identifier last.command last.length
+abbrev memory_with : Option Last → std.Option declared.Last.Last
+memory_with none = None
+memory_with (some last) = Some (record { identifier = last.identifier; command = last.command; length = last.length })
 
-memory-back : (m : Memory) → memory_with (remembered m) ≡ m
-memory-back memory.None = refl
-memory-back (memory.Last identifier command length) = refl
+memory-back : (m : std.Option declared.Last.Last) → memory_with (remembered m) ≡ m
+memory-back None = refl
+memory-back (Some last) = refl
 
 -- a reader in this state
 abbrev pub reader_with : State → Reader

@@ -2,21 +2,14 @@
 -- Assumes nothing.
 use mathlib.Core.Path.{◌≡◌, sym, ap, ap₂, ◌∙◌}
 use mathlib.Core.List.{List, [], ◌∷◌, ◌++◌, append_assoc}
-use Prim.Native.Nat.{ℕ, ◌+◌, ◌*◌, ◌%◌, ◌/◌, ◌^◌, ◌≤◌, ◌<◌}
-use native.Mathlib.Nat.{div-div-eq-div-mul}
+use Prim.Native.Nat.{ℕ, ◌+◌, ◌*◌, ◌^◌, ◌<◌}
 use native.Mathlib.Omega.{arith}
-use lib.ListN.{length, set, length-append}
+use lib.ListN.{length, drop, length-append}
+use Rattle.std.proofs.lemmas.Nat.{from_le_bytes-to_le_bytes_4}
 use Rattle.ground.specs.Laying.{laid}
-use Rattle.ground.proofs.Laws.Laying.{laid-after, laid-whole, set_after, set-two}
+use Rattle.ground.proofs.Laws.Laying.{laid-after, laid-front, laid-whole}
 use Rattle.request_spec.specs.Limits.{header_length, name_length}
 use Rattle.request_spec.specs.Header.{low_first, header}
-
-pub set-four : (l : List ℕ) (at a b c d : ℕ) → at + 4 ≤ length l
-    → set (set (set (set l at a) (at + 1) b) (at + 2) c) (at + 3) d ≡ laid l at (a ∷ b ∷ c ∷ d ∷ [])
-set-four l at a b c d h =
-    ap (λ (m : List ℕ). set (set m (at + 2) c) (at + 3) d) (set-two l at a b (omega arith))
-    ∙ ap (λ (m : List ℕ). set m (at + 3) d) (set_after l at (a ∷ b ∷ []) c (omega arith))
-    ∙ set_after l at (a ∷ b ∷ c ∷ []) d (omega arith)
 
 -- what is laid after what stands in front stands there
 pub laid-at-end : {m m' : List ℕ} (l x y : List ℕ) (at : ℕ) → m ≡ laid l 0 x → length x ≡ at → m' ≡ laid m at y → m' ≡ laid l 0 (x ++ y)
@@ -25,7 +18,7 @@ laid-at-end l x y at stood here lays = lays ∙ ap₂ (λ (m : List ℕ) (n : �
 -- a name and five numbers, one after the other, are the header
 pub header-laid : {a b c d e f : List ℕ} (bytes name : List ℕ) (kind version protocol serial flags : ℕ) → length name ≡ name_length
     → length bytes ≡ header_length
-    → a ≡ laid bytes 0 name
+    → a ≡ name ++ drop name_length bytes
     → b ≡ laid a name_length (low_first kind)
     → c ≡ laid b 24 (low_first version)
     → d ≡ laid c 28 (low_first protocol)
@@ -33,7 +26,7 @@ pub header-laid : {a b c d e f : List ℕ} (bytes name : List ℕ) (kind version
     → f ≡ laid e 36 (low_first flags)
     → f ≡ header name kind version protocol serial flags
 unfolding header
-header-laid bytes name kind version protocol serial flags long sized named first second third fourth fifth =
+header-laid {a} bytes name kind version protocol serial flags long sized named first second third fourth fifth =
     let with_kind = name ++ low_first kind in
     let with_version = with_kind ++ low_first version in
     let with_protocol = with_version ++ low_first protocol in
@@ -44,10 +37,11 @@ header-laid bytes name kind version protocol serial flags long sized named first
     let p : length with_protocol ≡ 32 = simp length-append (omega arith) in
     let s : length with_serial ≡ 36 = simp length-append (omega arith) in
     let f : length whole ≡ 40 = simp length-append (omega arith) in
+    let front : a ≡ laid bytes 0 name = named ∙ ap (λ (n : ℕ). name ++ drop n bytes) (sym long) ∙ sym (laid-front bytes name) in
     laid-at-end bytes with_serial (low_first flags) 36
     (laid-at-end bytes with_protocol (low_first serial) 32 (laid-at-end bytes with_version (low_first protocol) 28
     (laid-at-end bytes with_kind (low_first version) 24
-    (laid-at-end bytes name (low_first kind) name_length named long first) k second) v third)
+    (laid-at-end bytes name (low_first kind) name_length front long first) k second) v third)
     p fourth) s fifth
     ∙ laid-whole bytes whole (omega arith)
     ∙ simp append_assoc
@@ -59,23 +53,9 @@ unfolding header
 length-header name kind version protocol serial flags long = simp length-append (omega arith)
 
 -- and a number of 32 bits comes back from its four bytes, each worth 256 times the one before it
-whole : (n : ℕ) → n ≡ n % 0x100 + 0x100 * (n / 0x100)
-whole n = omega arith
-
-joined : (n a b c p q r t : ℕ) → n ≡ p + 0x100 * a → a ≡ q + 0x100 * b → b ≡ r + 0x100 * c → c ≡ t
-    → p + 0x100 * q + 0x10000 * r + 0x1000000 * t ≡ n
-joined n a b c p q r t d e f g = omega arith
-
 abbrev number : List ℕ → ℕ
 number [] = 0
 number (b ∷ more) = b + 0x100 * number more
 
 pub low-first-back : (n : ℕ) → n < 2 ^ 32 → number (low_first n) ≡ n
-low-first-back n fits =
-    omega (
-      arith,
-      joined n (n / 0x100) (n / 0x10000) (n / 0x1000000) (n % 0x100) (n / 0x100 % 0x100) (n / 0x10000 % 0x100) (n / 0x1000000 % 0x100)
-          (whole n)
-          (whole (n / 0x100) ∙ ap (λ (k : ℕ). n / 0x100 % 0x100 + 0x100 * k) (div-div-eq-div-mul n 0x100 0x100))
-          (whole (n / 0x10000) ∙ ap (λ (k : ℕ). n / 0x10000 % 0x100 + 0x100 * k) (div-div-eq-div-mul n 0x10000 0x100)) (omega arith),
-    )
+low-first-back n fits = omega (arith, from_le_bytes-to_le_bytes_4 n fits)

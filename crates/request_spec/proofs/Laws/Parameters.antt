@@ -38,16 +38,6 @@ value-within p value taken = ((and-eq-true_iff (eqb (length value) (length_of p)
 pub value-length : {p q : Parameter} (value : List ℕ) → p ≡ q → is_value_of p value ≡ true → length value ≡ length_of q
 value-length {p} value same taken = value-sizes p value taken ∙ ap length_of same
 
--- the length is tried first
-pub value-other : {n : ℕ} (p : Parameter) (value : List ℕ) → n ≡ length_of p → (length value ≡ n → ⊥) → false ≡ is_value_of p value
-unfolding is_value_of
-value-other p value long other = rw (ne_eqb (length value) (length_of p) (λ e. other (e ∙ sym long)))
-
-pub value-sized : {n : ℕ} {p q : Parameter} (value : List ℕ) → p ≡ q → n ≡ length_of p → length value ≡ n → in_range q value ≡ is_value_of p value
-unfolding is_value_of
-value-sized {p} value same long whole =
-    ap (λ (r : Parameter). in_range r value) (sym same) ∙ rw (eq-eqb (length value) (length_of p) (whole ∙ long))
-
 -- a value is one by the table
 pub value-is : (p : Parameter) (value : List ℕ) → (is_value_of p value ≡ true) ↔ IsValue p value
 unfolding is_value_of

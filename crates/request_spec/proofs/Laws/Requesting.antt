@@ -108,12 +108,12 @@ module _ (identifier code : ℕ) («data» out : List ℕ) where
           (ap (λ (a : After). a.tally.refusal) (request-written asked) ∙ bad))
 
 -- what the typed writer wrote, put anywhere into any stream, is heard whole
-pub request-heard : (r : Counted) (identifier code : ℕ) («data» out out' before rest : List ℕ) {s : Receiver} {all : List Told}
+pub request-heard : (r : Result ℕ Refusal) (identifier code : ℕ) («data» out out' before rest : List ℕ) {s : Receiver} {all : List Told}
     → after r out' ≡ request_written identifier code «data» out
     → (tally r).refusal ≡ 0
     → IsFresh Point s
-    → Hearing (before ++ (take r.count out' ++ rest)) s 0 all
-    → Memᴰ (told_at (length before + r.count) FRAME (identifier ∷ code ∷ «data»)) all
+    → Hearing (before ++ (take (tally r).count out' ++ rest)) s 0 all
+    → Memᴰ (told_at (length before + (tally r).count) FRAME (identifier ∷ code ∷ «data»)) all
 request-heard r identifier code «data» out out' before rest says done fr hearing =
     let asked = (written-asks identifier code «data» out (sym (ap (λ (a : After). a.tally.refusal) says) ∙ done)).1 in
     point-listed r identifier code «data» out out' before rest (says ∙ sym (request-written identifier code «data» out asked)) done fr hearing

@@ -1,7 +1,7 @@
 -- A call's statement leaves no choice: two results that it allows are equal. docs/STATEMENTS.md cites one of these, or one of
 -- ground's or wire_spec's, for each call.
 -- Assumes nothing.
-use mathlib.Core.Path.{◌≡◌, refl, sym, ap}
+use mathlib.Core.Path.{◌≡◌, refl, sym, ap, ◌∙◌}
 use mathlib.Core.List.{List}
 use mathlib.Core.Option.{Option, none, some}
 use Prim.Native.Nat.{ℕ}

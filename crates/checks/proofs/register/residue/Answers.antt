@@ -11,24 +11,23 @@ use Rattle.ground.proofs.Laws.Table.{entry}
 use Rattle.checks.specs.Fcs.{shift_step, shift_steps, byte_step, run, residue}
 use Rattle.checks.proofs.register.residue.Goals as goal
 
-pub loop-i-init : goal.loop-i-init
+pub loop-byte-init : goal.loop-byte-init
 unfolding shift_step shift_steps residue
-loop-i-init c = (omega arith, record { test = refl }, refl)
+loop-byte-init c = (record { test = refl }, refl)
 
-pub loop-i-preserved : goal.loop-i-preserved
+pub loop-byte-preserved : goal.loop-byte-preserved
 unfolding byte_step run
-loop-i-preserved c =
+loop-byte-preserved c =
     let s = c.args.bytes.now in
-    let met = bit_xor (get_or s c.loop-i.i 0) c.loop-i.register in
+    let l = c.loop-byte in
+    let met = bit_xor (get_or s l.byte-index 0) l.register in
     let h : met % 0x100 < 0x100 = omega arith in (
-      omega arith,
-      c.loop-i.invariant.1,
-      ap (λ (w : ℕ). run (bit_xor w (c.loop-i.register / 0x100)) (drop (c.loop-i.i + 1) s))
-          (entry (shift_steps 8) (met % 0x100) h c.loop-i.invariant.1 ∙ ap (shift_steps 8) (sym (and_mask met 8)))
-          ∙ rw (drop-next s c.loop-i.i c.loop-i-test.true) at c.loop-i.invariant.2,
+      l.invariant.0,
+      ap (λ (w : ℕ). run (bit_xor w (l.register / 0x100)) (drop (l.byte-index + 1) s))
+          (entry (shift_steps 8) (met % 0x100) h l.invariant.0 ∙ ap (shift_steps 8) (sym (and_mask met 8)))
+          ∙ rw (drop-next s l.byte-index c.loop-byte-test.true) at l.invariant.1,
     )
 
 pub returns : goal.returns
 unfolding run
-returns c =
-    rw (drop_of_length-le _ c.loop-i-test.false) at c.loop-i.invariant.2
+returns c = rw (drop_of_length-le _ c.loop-byte-test.false) at c.loop-byte.invariant.1

@@ -2,15 +2,11 @@
 -- test, computed over the whole table.
 -- Assumes nothing.
 use mathlib.Core.Path.{◌≡◌}
-use Prim.Native.Nat.{◌-◌, ◌≤◌}
-use lib.ListN.{length, drop}
+use lib.ListN.{drop}
 use Rattle.ground.proofs.Laws.Table.{WorkedOut}
 use Rattle.checks.specs.Fcs.{shift_steps, run, residue}
 use Rattle.checks.proofs.register.residue.Given as goal
 
-abbrev pub invariant-loop-i : goal.invariant-loop-i
-invariant-loop-i l =
-    (l.i ≤ length l.bytes) × WorkedOut (shift_steps 8) l.table × (run l.register (drop l.i l.bytes) ≡ residue l.bytes)
-
-abbrev pub decreases-loop-i : goal.decreases-loop-i
-decreases-loop-i l = length l.bytes - l.i
+abbrev pub invariant-loop-byte : goal.invariant-loop-byte
+invariant-loop-byte l =
+    WorkedOut (shift_steps 8) l.table × (run l.register (drop l.byte-index l.bytes) ≡ residue l.bytes)

@@ -7,12 +7,12 @@ use Rattle.ground.proofs.Laws.Lists.{drop-next}
 use Rattle.checks.specs.Sum.{total, sum}
 use Rattle.checks.proofs.total.sum.Goals as goal
 
-pub loop-i-preserved : goal.loop-i-preserved
+pub loop-byte-preserved : goal.loop-byte-preserved
 unfolding total
-loop-i-preserved c =
-    omega (arith, ap total (drop-next c.args.bytes.now c.loop-i.i c.loop-i-test.true))
+loop-byte-preserved c =
+    omega (arith, ap total (drop-next c.args.bytes.now c.loop-byte.byte-index c.loop-byte-test.true))
 
 pub returns : goal.returns
 unfolding total sum
 returns c =
-    omega (arith, ap total (drop_of_length-le c.args.bytes.now c.loop-i-test.false))
+    omega (arith, ap total (drop_of_length-le c.args.bytes.now c.loop-byte-test.false))

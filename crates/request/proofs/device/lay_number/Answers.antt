@@ -1,7 +1,10 @@
--- `device::lay_number`: four bytes stored one after the other are laid as the four of `low_first`.
+-- `device::lay_number`: what is copied are the four bytes of `low_first`.
 -- Assumes nothing.
-use Rattle.request_spec.proofs.Laws.Header.{set-four}
+use Rattle.ground.proofs.Laws.Laying.{laid-piece}
+use Rattle.request_spec.specs.Header.{low_first}
 use Rattle.request.proofs.device.lay_number.Goals as goal
 
 pub returns : goal.returns
-returns c = set-four c.args.bytes.now c.args.at _ _ _ _ c.requires
+returns c =
+    let a = c.args in
+    rw (c.copy_from_slice.ensures.after, c.to_le_bytes.ensures) (laid-piece a.bytes.now a.at (low_first a.number) c.requires)
