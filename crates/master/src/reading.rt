@@ -26,29 +26,23 @@ pub fn read_reply(identifier: u8, code: u8, data: &[u8], reply: &[u8]) -> Result
 fn read_as(identifier: u8, code: u8, command: Command, reply: &[u8]) -> Result<Meaning, Refusal>
     ensures { understood (data_of reply.now) result ≡ read_as identifier code reply.now command }
 {
-    if reply.is_empty() || reply[0] != identifier {
-        return Err(Refusal::WrongId);
+    match reply {
+        [] => Err(Refusal::WrongId),
+        [first, ..] if *first != identifier => Err(Refusal::WrongId),
+        [_, SIGN, data @ ..] => read_sign(command, data),
+        [_, second, data @ ..] if *second == code && code != 0x01 => read_data(command, data),
+        _ => Err(Refusal::WrongCommand),
     }
-    if reply.len() == 1 {
-        return Err(Refusal::WrongCommand);
-    }
-    if reply[1] == SIGN {
-        return read_sign(command, &reply[2..]);
-    }
-    if reply[1] != code || code == 0x01 {
-        return Err(Refusal::WrongCommand);
-    }
-    read_data(command, &reply[2..])
 }
 
 // The data of a reply: what stands after its identifier and command.
 pub fn data_of(content: &[u8]) -> &[u8]
     ensures { result.now ≡ data_of content.now }
 {
-    if content.len() < 2 {
-        return &content[..0];
+    match content {
+        [_, _, data @ ..] => data,
+        _ => &[],
     }
-    &content[2..]
 }
 
 // An ACK or a NACK, with this data.
@@ -56,20 +50,13 @@ pub fn data_of(content: &[u8]) -> &[u8]
 fn read_sign(command: Command, data: &[u8]) -> Result<Meaning, Refusal>
     ensures { understood «data».now result ≡ sign_read command «data».now }
 {
-    if data.len() != 1 {
+    let [reason] = data else {
         return Err(Refusal::WrongLength);
-    }
-    let reason = data[0];
-    if reason == ACK {
-        if matches!(command, Command::Write(_)) {
-            return Ok(Meaning::Ack);
-        }
-        return Err(Refusal::WrongReason);
-    }
-    if (1..=MOST_NACK).contains(&reason) {
-        Ok(Meaning::Nack(reason))
-    } else {
-        Err(Refusal::WrongReason)
+    };
+    match *reason {
+        ACK if matches!(command, Command::Write(_)) => Ok(Meaning::Ack),
+        number @ 1..=MOST_NACK => Ok(Meaning::Nack(number)),
+        _ => Err(Refusal::WrongReason),
     }
 }
 

@@ -38,9 +38,9 @@ receiver-goes-on {s = s} was piece r says =
     subst⁻¹ (TakesPiece s piece) says
     (record {
       fine = refused-only s piece ∙ rw good refl;
-      most = t.most;
+      most = omega (arith, t.most);
       some = t.some;
-      all = λ quiet. t.all (ap happened quiet);
+      all = λ quiet. omega (arith, t.all (ap happened quiet));
       just = received-prefix s piece good;
     })
 

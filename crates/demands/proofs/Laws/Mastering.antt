@@ -13,7 +13,6 @@ use Rattle.request_spec.specs.declared.parameter.Parameter.{Parameter}
 use Rattle.request_spec.specs.declared.command.Card.{Card}
 use Rattle.request_spec.specs.declared.command.Card.TheVariants.{Marin, Hid, Motorola}
 use Rattle.request_spec.specs.declared.command.Command.{Command}
-use Rattle.request_spec.specs.declared.command.Command.TheVariants as Command
 use Rattle.request_spec.specs.Limits.{header_length}
 use Rattle.request_spec.specs.Parameters.{length_of}
 use Rattle.request_spec.specs.Acceptance as table

@@ -7,7 +7,6 @@ use mathlib.Core.Option.{Option, none, some}
 use Prim.Native.Nat.{ℕ}
 use Rattle.std.specs.Prelude.{Result, Ok, Err}
 use Rattle.ground.specs.declared.refusal.Refusal.{Refusal}
-use Rattle.ground.specs.Refusals.{number}
 use Rattle.ground.proofs.Laws.Refusals.{number-some}
 use Rattle.ground.proofs.Laws.Unique.{same, err-injective}
 use Rattle.request_spec.specs.declared.reply.Meaning.{Meaning}
