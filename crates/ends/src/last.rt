@@ -1,7 +1,7 @@
 // The last row of a listing.
 ghost use Rattle.std.specs.Prelude.{◌≡◌};
 ghost use Rattle.ground.specs.Laying.{ended, put as put_of};
-ghost use Rattle.tape_spec.specs.Rows.{word, last_row};
+ghost use Rattle.tape_spec.specs.Rows.{word as word_of, last_row};
 ghost use Rattle.tape_spec.specs.Taping.{ending as ending_of, last_row_of};
 
 use ground::{Refusal, put};
@@ -24,7 +24,7 @@ pub fn ending(next: Next) -> Ending
 {
     match next {
         Next::Kind => Ending::End,
-        Next::Body(_line) => Ending::Cut,
+        Next::Body(_) => Ending::Cut,
         Next::Bad => Ending::Bad,
         Next::Full => Ending::Full,
     }
@@ -35,21 +35,21 @@ pub fn write_ending(ending: Ending, records: u32, out: &mut [u8]) -> Result<usiz
     ensures { ended 0 result out.new ≡ put_of (last_row ending records) out.old 0 }
 {
     let mut row = [0u8; MOST_LAST];
-    let said = put_word(ending, &mut row)?;
+    let said = put(word(ending), &mut row, 0)?;
     let counted = put_decimal(records as u64, &mut row, said)?;
     let length = put(b"\n", &mut row, counted)?;
     put(&row[..length], out, 0)
 }
 
-// Puts the word for an ending, and the blank after it, to the front of a row.
+// The word for an ending, and the blank after it.
 #[tactic(auto, unfolding(text::specs::Ascii::ascii, tape_spec::specs::Rows::word))]
-fn put_word(ending: Ending, row: &mut [u8]) -> Result<usize, Refusal>
-    ensures { ended 0 result row.new ≡ put_of (word ending) row.old 0 }
+fn word(ending: Ending) -> &'static [u8]
+    ensures { result.now ≡ word_of ending }
 {
     match ending {
-        Ending::End => put(b"end ", row, 0),
-        Ending::Cut => put(b"cut ", row, 0),
-        Ending::Bad => put(b"bad ", row, 0),
-        Ending::Full => put(b"full ", row, 0),
+        Ending::End => b"end ",
+        Ending::Cut => b"cut ",
+        Ending::Bad => b"bad ",
+        Ending::Full => b"full ",
     }
 }

@@ -28,14 +28,15 @@ pub fn put_heard(
 {
     match heard.told {
         None => Ok(at),
-        Some(Verdict { event, length }) => {
-            // only a frame's content is shown; the array has no more than it may hold
-            let shown = match event {
-                Event::Frame => length.min(MOST_CONTENT),
-                _ => 0,
-            };
-            put_row(number, line, event, &heard.content[..shown], out, at)
+        Some(Verdict {
+            event: Event::Frame,
+            length,
+        }) => {
+            // the array has no more than it may hold
+            let shown = length.min(MOST_CONTENT);
+            put_row(number, line, Event::Frame, &heard.content[..shown], out, at)
         }
+        Some(Verdict { event, .. }) => put_row(number, line, event, &[], out, at),
     }
 }
 
@@ -65,6 +66,7 @@ fn put_row(
 
 // Lays what a row begins with, its number, the line's letter and the event's name, to the front of `head`, and answers its length.
 fn lay_head(number: u32, line: Line, event: Event, head: &mut [u8]) -> Result<usize, Refusal>
+    requires { length head.old ≡ most_head }
     ensures { ended 0 result head.new ≡ put_of (head_of number line (named (Some event))) head.old 0 }
 {
     let counted = put_decimal(number as u64, head, 0)?;

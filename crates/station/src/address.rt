@@ -9,23 +9,19 @@ use link_spec::{BROADCAST, LAST_ADDRESS, MASTER, Station};
 fn is_station(address: u8) -> bool
     ensures { result ≡ is_station address }
 {
-    if address == BROADCAST {
-        return false;
-    }
-    address <= LAST_ADDRESS
+    address != BROADCAST && address <= LAST_ADDRESS
 }
 
 // Whether the station takes a frame with this address.
+#[tactic(auto, unfolding(link_spec::specs::Address::takes))]
 pub fn takes(own: u8, address: u8) -> bool
     ensures { result ≡ takes_of own address }
 {
     if own == MASTER {
-        return address == MASTER;
+        address == MASTER
+    } else {
+        address == own || address == BROADCAST
     }
-    if address == own {
-        return true;
-    }
-    address == BROADCAST
 }
 
 // Whether a station may have its address. On the point line it has none, and none that is wrong.

@@ -15,6 +15,7 @@ pub fn fresh_point() -> Receiver
 }
 
 // A fresh receiver of the addressed line for a station: 00 the master, else a reader's own address. Refuses 7F and FD..FF (BadAddress).
+#[tactic(auto, unfolding(link_spec::specs::Receiving::fresh_made))]
 pub fn fresh_addressed(own: u8) -> Result<Receiver, Refusal>
     ensures { made own result ≡ fresh_made own }
 {
@@ -48,10 +49,5 @@ pub fn outside(station: Station, content: [u8; MOST_CONTENT]) -> Receiver
 pub fn is_bad_state(receiver: Receiver) -> bool
     ensures { result ≡ bad_receiver receiver }
 {
-    let station = receiver.station;
-    if has_address(station) {
-        receiver.count > MOST_CONTENT
-    } else {
-        true
-    }
+    receiver.count > MOST_CONTENT || !has_address(receiver.station)
 }

@@ -27,12 +27,11 @@ pub fn list(tape: Tape, chunk: &[u8], out: &mut [u8]) -> Result<Listed, Refusal>
 }
 
 // The same, of a tape that no row of the refusal table names.
-fn go(tape: Tape, chunk: &[u8], out: &mut [u8]) -> Listed
+fn go(mut tape: Tape, chunk: &[u8], out: &mut [u8]) -> Listed
     requires tape_good { bad_tape tape ≡ false }
     requires out_roomy { least_room ≤ length out.old }
     ensures { listed_out tape (Ok result) out.new ≡ text_written (going (length out.old) tape chunk.now) out.old }
 {
-    let mut tape = tape;
     let mut piece = [0u8; MOST_RUN];
     let mut taken: usize = 0;
     let mut written: usize = 0;

@@ -63,7 +63,7 @@ fn gather(kind: u8, most: usize, chunk: &[u8], piece: &mut [u8]) -> usize
 // Hears bodies, and puts their rows while there is room for another.
 fn hear(
     line: Line,
-    receiver: Receiver,
+    mut receiver: Receiver,
     records: u32,
     bodies: &[u8],
     out: &mut [u8],
@@ -75,7 +75,6 @@ fn hear(
     ensures { left result out.new
         ≡ run_left (running (length out.old - at) line records receiver bodies.now) out.old at }
 {
-    let mut receiver = receiver;
     let mut count: usize = 0;
     let mut end = at;
     while count < bodies.len() && out.len() - end >= LEAST_ROOM {

@@ -1,7 +1,7 @@
 // Whole numbers in decimal digits.
-ghost use Rattle.std.specs.Prelude.{◌≡◌};
+ghost use Rattle.std.specs.Prelude.{◌≡◌, ◌≤◌, length, drop};
 ghost use Rattle.ground.specs.Laying.{ended, put as put_of};
-ghost use Rattle.text.specs.Decimal.{decimal};
+ghost use Rattle.text.specs.Decimal.{most_digits, decimal};
 
 use ground::{Refusal, put};
 
@@ -13,15 +13,23 @@ pub fn put_decimal(n: u64, out: &mut [u8], at: usize) -> Result<usize, Refusal>
     ensures { ended at result out.new ≡ put_of (decimal n) out.old at }
 {
     let mut text = [0u8; MOST_DIGITS];
-    let mut from = MOST_DIGITS;
+    let from = lay_digits(n, &mut text);
+    put(&text[from..], out, at)
+}
+
+// Lays the decimal digits of `n` into the last places of `text`, and answers where they begin.
+pub(crate) fn lay_digits(n: u64, text: &mut [u8]) -> usize
+    requires { length text.old ≡ most_digits }
+    ensures within { result ≤ most_digits }
+    ensures digits { drop result text.new ≡ decimal n }
+{
     let mut left = n;
-    while from > 0 {
-        from -= 1;
+    for from in (0..MOST_DIGITS).rev() {
         text[from] = b'0' + (left % 10) as u8;
         left /= 10;
         if left == 0 {
-            break;
+            return from;
         }
     }
-    put(&text[from..], out, at)
+    0
 }

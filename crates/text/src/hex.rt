@@ -1,5 +1,5 @@
 // Bytes as upper-case hex pairs.
-ghost use Rattle.std.specs.Prelude.{◌≡◌, ◌+◌, ◌*◌, ◌≤◌, ◌<◌, length};
+ghost use Rattle.std.specs.Prelude.{◌≡◌, ◌+◌, ◌*◌, ◌≤◌, ◌<◌, ◌∷◌, length};
 ghost use Rattle.ground.specs.Laying.{laid, ended, put as put_of};
 ghost use Rattle.text.specs.Hex.{digit as digit_of, pair, pairs};
 
@@ -10,33 +10,29 @@ use ground::{Refusal, put, room};
 pub fn put_pairs(bytes: &[u8], out: &mut [u8], at: usize) -> Result<usize, Refusal>
     ensures { ended at result out.new ≡ put_of (pairs bytes.now) out.old at }
 {
-    if bytes.len() == 0 {
+    let Some((first, others)) = bytes.split_first() else {
         return put(&[b'-'], out, at);
-    }
-    let room = room(out, at);
-    // three places for each pair but one
-    if bytes.len() > room / 3 + room % 3 / 2 {
+    };
+    // three places for each pair, less one
+    if bytes.len() > (room(out, at) + 1) / 3 {
         return Err(Refusal::NoRoom);
     }
-    lay_pairs(bytes, out, at);
-    Ok(at + (3 * bytes.len() - 1))
+    Ok(lay_pairs(*first, others, out, at))
 }
 
-// Lays the hex pairs of the bytes into `out` from the place `at` on.
-fn lay_pairs(bytes: &[u8], out: &mut [u8], at: usize)
-    requires bytes_nonzero { 0 < length bytes.now }
-    requires bytes_in_bounds { at + 3 * length bytes.now ≤ length out.old + 1 }
-    ensures { out.new ≡ laid out.old at (pairs bytes.now) }
+// Lays the hex pairs of the bytes, of which there is one at least, into `out` from the place `at` on, and answers the place after them.
+fn lay_pairs(first: u8, others: &[u8], out: &mut [u8], at: usize) -> usize
+    requires { at + 2 + 3 * length others.now ≤ length out.old }
+    ensures { (result ≡ at + 2 + 3 * length others.now) × (out.new ≡ laid out.old at (pairs (first ∷ others.now))) }
 {
-    lay_pair(bytes[0], out, at);
+    lay_pair(first, out, at);
     let mut end = at + 2;
-    let mut i: usize = 1;
-    while i < bytes.len() {
+    for &byte in others {
         out[end] = b'.';
-        lay_pair(bytes[i], out, end + 1);
+        lay_pair(byte, out, end + 1);
         end += 3;
-        i += 1;
     }
+    end
 }
 
 // Lays one pair into `out` at the place `at`.

@@ -4,14 +4,13 @@ use mathlib.Core.Path.{◌≡◌, refl, sym, subst, subst⁻¹, ◌∙◌}
 use mathlib.Core.Bool.{true, false, cond}
 use mathlib.Core.List.{List, [], ◌∷◌}
 use mathlib.Mathlib.Logic.Function.Defs.{LeftInverse-Injective}
-use Prim.Native.Nat.{ℕ, ◌-◌, ◌≤◌}
+use Prim.Native.Nat.{ℕ, ◌≤◌}
 use native.Mathlib.Omega.{arith}
 use lib.Dec.{eqb}
-use lib.ListN.{length, take, drop}
+use lib.ListN.{length}
 use borrow.Author.Tests.{eqb-true}
 use Rattle.std.specs.Prelude.{Option, None, Some, Result, Ok, Err}
 use Rattle.ground.proofs.Laws.Choice.{cond-elim, or_elim, or-none}
-use Rattle.ground.proofs.Laws.Lists.{take_rest}
 use Rattle.link_spec.specs.Limits.{most_data}
 use Rattle.request_spec.specs.declared.parameter.Parameter.{Parameter}
 use Rattle.request_spec.specs.declared.parameter.Parameter.TheVariants.{Speed, Settings, Cell}
@@ -22,7 +21,7 @@ use Rattle.request_spec.specs.declared.command.Fault.{Fault}
 use Rattle.request_spec.specs.declared.command.Fault.TheVariants.{UnknownCode, BadData}
 use Rattle.request_spec.specs.Parameters.{parameter_code, parameter_with, is_value_of, of_speed}
 use Rattle.request_spec.specs.Acceptance.{bare_accepted, write_accepted_to, write_accepted, read_accepted_from, read_accepted, is_known, acceptance, command_code, Judgement, by_code, by_codes, by_number, judgement, FitsCommand, Accepts, header, write, read, marin, hid, motorola}
-use Rattle.request_spec.proofs.Laws.Parameters.{value-sizes, length_of-most, value-is}
+use Rattle.request_spec.proofs.Laws.Parameters.{parameter-with, value-sizes, length_of-most, value-is}
 
 -- ---- what is accepted is a row of the table
 
@@ -42,12 +41,6 @@ parameter-named code =
     cond-elim (Named code) (eqb code 0x02) (eqb-true code 0x02)
     (λ _. cond-elim (Named code) (eqb code 0x05) (eqb-true code 0x05)
     (λ _. cond-elim (Named code) (eqb code 0x80) (eqb-true code 0x80) (λ _. tt)))
-
-parameter-with : (p : Parameter) → parameter_with (parameter_code p) ≡ Some p
-unfolding parameter_with
-parameter-with Speed = refl
-parameter-with Settings = refl
-parameter-with Cell = refl
 
 bare-row : (code : ℕ) (command : Command) («data» : List ℕ) → Accepts code [] command → Row code «data» (bare_accepted command «data»)
 bare-row code command [] row = row
@@ -156,13 +149,6 @@ fits-command (read p) = tt
 fits-command marin = tt
 fits-command hid = tt
 fits-command motorola = tt
-
--- a write's data as the code takes it apart: there is a first byte, and the rest is a value
-pub write-fits : {command : Command} {p : Parameter} («data» : List ℕ) → command ≡ Write p → FitsCommand command «data»
-    → (1 ≤ length «data») × (is_value_of p (take (length «data» - 1) (drop 1 «data»)) ≡ true)
-write-fits {p = p} «data» is fits =
-    let (least, value) = subst (λ (k : Command). FitsCommand k «data») is fits in
-    (least, subst⁻¹ (λ (l : List ℕ). is_value_of p l ≡ true) (take_rest «data» 1) value)
 
 -- each command has its code
 pub accepted-code : {code : ℕ} {«data» : List ℕ} {command : Command} → Accepts code «data» command → code ≡ command_code command

@@ -1,25 +1,22 @@
 -- Laws of the parameters.
 -- Assumes nothing.
 use mathlib.Core.Path.{◌≡◌, refl, sym, ap, ◌∙◌}
-use mathlib.Core.Bool.{true, true≢false, and-eq-true_iff}
+use mathlib.Core.Bool.{true, and-eq-true_iff}
 use mathlib.Core.List.{List, [], ◌∷◌}
 use mathlib.Core.Logic.{◌↔◌}
-use Prim.Native.Nat.{ℕ, ◌≤◌, ◌<◌}
+use Prim.Native.Nat.{ℕ, ◌≤◌}
 use native.Mathlib.Omega.{arith}
 use lib.Dec.{eqb}
 use lib.ListN.{length}
 use borrow.Author.Tests.{eqb-true, eq-eqb}
+use Rattle.std.specs.Prelude.{Option, Some}
+use Rattle.std.specs.Option.{unwrap_or}
 use Rattle.ground.proofs.Laws.Choice.{between-true, between_is}
 use Rattle.request_spec.specs.declared.parameter.Parameter.{Parameter}
 use Rattle.request_spec.specs.declared.parameter.Parameter.TheVariants.{Speed, Settings, Cell}
-use Rattle.request_spec.specs.Parameters.{parameter_code, length_of, in_range, is_value_of, IsValue, of_speed, of_settings, of_cell}
+use Rattle.request_spec.specs.Parameters.{parameter_code, parameter_with, length_of, in_range, is_value_of, IsValue, of_speed, of_settings, of_cell}
 
--- a value has 1 to 8 bytes
-pub length_of-least : (p : Parameter) → 0 < length_of p
-length_of-least Speed = omega arith
-length_of-least Settings = omega arith
-length_of-least Cell = omega arith
-
+-- a value has at most 8 bytes
 pub length_of-most : (p : Parameter) → length_of p ≤ 8
 length_of-most Speed = omega arith
 length_of-most Settings = omega arith
@@ -55,14 +52,14 @@ value-is p value = (λ taken. of p value (value-sizes p value taken) (value-with
     back (of_settings {value} long) = rw (eq-eqb (length value) 4 long)
     back (of_cell {value} long) = rw (eq-eqb (length value) 8 long)
 
--- a code belongs to one parameter
+-- each parameter's code names it, so a code belongs to one parameter
+pub parameter-with : (p : Parameter) → parameter_with (parameter_code p) ≡ Some p
+unfolding parameter_with
+parameter-with Speed = refl
+parameter-with Settings = refl
+parameter-with Cell = refl
+
 pub same_code : (p q : Parameter) → eqb (parameter_code p) (parameter_code q) ≡ true → p ≡ q
-same_code Speed Speed e = refl
-same_code Speed Settings e = absurd (true≢false (sym e))
-same_code Speed Cell e = absurd (true≢false (sym e))
-same_code Settings Speed e = absurd (true≢false (sym e))
-same_code Settings Settings e = refl
-same_code Settings Cell e = absurd (true≢false (sym e))
-same_code Cell Speed e = absurd (true≢false (sym e))
-same_code Cell Settings e = absurd (true≢false (sym e))
-same_code Cell Cell e = refl
+same_code p q e =
+    ap (λ (o : Option Parameter). unwrap_or o p)
+    (sym (parameter-with p) ∙ ap parameter_with (eqb-true (parameter_code p) (parameter_code q) e) ∙ parameter-with q)

@@ -10,21 +10,22 @@ use native.Mathlib.Decide.{dec_le}
 use native.Mathlib.Omega.{arith}
 use borrow.Author.Tests.{le-ltb}
 use lib.ListN.{length, take, drop, replicate, length-replicate, drop_of_length-le}
+use Rattle.std.specs.Prelude.{Result, Ok}
 use Rattle.ground.specs.declared.refusal.Refusal.{Refusal}
-use Rattle.ground.specs.declared.refusal.Refusal.TheVariants as refusal
-use Rattle.ground.specs.Laying.{laid, Ended}
+use Rattle.ground.specs.Laying.{laid, Ended, ended}
 use Rattle.ground.proofs.Laws.Lists.{drop-on, drop-none}
 use Rattle.ground.proofs.Laws.Laying.{take-front, put_refused, put-placed, take-placed}
+use Rattle.ground.proofs.Laws.Unique.{out-ended}
 use Rattle.tape_spec.specs.Limits.{least_room}
 use Rattle.tape_spec.specs.Rows.{header_row, last_row}
 use Rattle.tape_spec.specs.declared.tape.Tape.{Tape}
 use Rattle.tape_spec.specs.declared.tape.Listed.{Listed}
 use Rattle.tape_spec.specs.Whole.{parts, fresh_receivers, entries, entry_rows, event_rows, listing}
 use Rattle.tape_spec.specs.Frames.{Shows}
-use Rattle.tape_spec.specs.Taping.{fresh_tape, advanced, is_over, going, ListedOut, not_listed, text_written, bad_tape, listed, last_row_of}
+use Rattle.tape_spec.specs.Taping.{fresh_tape, advanced, is_over, going, ListedOut, listed_out, not_listed, text_written, bad_tape, listed, last_row_of}
 use Rattle.tape_spec.specs.Sessions.{RowWritten, TapeSession, over, call, Listing, begun}
 use Rattle.tape_spec.proofs.Laws.Fine.{step-fine}
-use Rattle.tape_spec.proofs.Laws.Taping.{listed-elim, fresh-fine}
+use Rattle.tape_spec.proofs.Laws.Taping.{out-listed, listed-elim, fresh-fine}
 use Rattle.tape_spec.proofs.Laws.Remaining.{remaining, going-remains, over-remains, remaining-listed}
 use Rattle.tape_spec.proofs.Laws.Frames.{frames-shown}
 
@@ -37,6 +38,7 @@ written_row {row} {text} w = go (dec_le (length row) (length w.out - 0))
     go : Dec (length row ≤ length w.out - 0) → text ≡ row
     go (yes fits) =
         w.writes
+        ∙ ap (take (ended 0 w.result w.last).end) (sym (out-ended 0 w.result w.last))
         ∙ ap (λ (d : Ended). take d.end d.out) (w.says ∙ put-placed row w.out 0 fits)
         ∙ take-placed row w.out
     go (no short) =
@@ -72,7 +74,8 @@ module _ (bytes : List ℕ) where
   session-remains {t} (over (inl out) last) = written_row last ∙ ap (remaining t) (sym (drop_of_length-le bytes out))
   session-remains {t} {before} (over (inr out) last) = written_row last ∙ sym (over-remains (drop before bytes) t out)
   session-remains {t} {before} (call chunk rest out last r continues says more) =
-      ap (λ (l : List ℕ). take r.written last ++ l) (session-remains more)
+      let d = listed_out t r last in
+      ap₂ (λ (o l : List ℕ). take d.written o ++ l) (sym (out-listed t r last)) (session-remains more)
       ∙ subst⁻¹ (Continues t before) says (call-continues t before chunk rest out continues)
 
 -- the theorem: whatever the chunks and the buffers were, the text is the listing of the whole tape
@@ -101,7 +104,7 @@ row_written row =
     let out : List ℕ = replicate (length row) 0 in
     let fits : length row ≤ length out - 0 = rw (length-replicate {A = ℕ} (length row) 0) (omega arith) in
     record {
-      result = record { refusal = refusal.None; end = 0 + length row };
+      result = Ok (0 + length row);
       out = out;
       last = laid out 0 row;
       says = sym (put-placed row out 0 fits);
@@ -126,7 +129,7 @@ module _ (bytes : List ℕ) where
   some_byte t before b l out left fine more roomy rest =
       let s = advanced t b in
       let text = s.text ++ [] in
-      let r : Listed = record { refusal = refusal.None; tape = s.tape; taken = 1; written = length text } in
+      let r : Result Listed Refusal = Ok (record { tape = s.tape; taken = 1; written = length text }) in
       (_, call (b ∷ []) l out (laid out 0 text) r left (byte-listed t b out fine more roomy) rest.1)
 
   some : (l : List ℕ) (t : Tape) (before : ℕ) → drop before bytes ≡ l → bad_tape t ≡ false → Some t before

@@ -8,6 +8,7 @@ use native.Mathlib.Omega.{arith}
 use borrow.Author.Tests.{lt-ltb, le-ltb, ltb-false}
 use lib.Dec.{ltb}
 use lib.ListN.{length, length-append, length-take}
+use Rattle.std.specs.Prelude.{Result, Ok, Err}
 use Rattle.ground.specs.declared.refusal.Refusal.{Refusal}
 use Rattle.ground.specs.declared.refusal.Refusal.TheVariants.{NoRoom, BadState}
 use Rattle.ground.specs.Refusals.{Keeps}
@@ -22,9 +23,15 @@ use Rattle.tape_spec.proofs.Laws.Rows.{event-within}
 use Rattle.tape_spec.specs.declared.tape.Next.{Next}
 use Rattle.tape_spec.specs.declared.tape.Next.TheVariants.{Kind, Body, Bad, Full}
 use Rattle.tape_spec.specs.declared.tape.Tape.{Tape}
+use Rattle.tape_spec.specs.declared.tape.Listed.{Listed}
 use Rattle.tape_spec.specs.Whole.{receiver_on}
-use Rattle.tape_spec.specs.Taping.{fresh_tape, advance, advanced, is_over, Went, standing, after_step, going, ListedOut, not_listed, text_written, bad_tape, listed}
+use Rattle.tape_spec.specs.Taping.{fresh_tape, advance, advanced, is_over, Went, standing, after_step, going, ListedOut, listed_out, not_listed, text_written, bad_tape, listed}
 use Rattle.tape_spec.proofs.Laws.Fine.{body-permitted, step-fine}
+
+-- what a call left is the buffer, refused or not
+pub out-listed : (t : Tape) (r : Result Listed Refusal) (out : List ℕ) → (listed_out t r out).out ≡ out
+out-listed t (Ok r) out = refl
+out-listed t (Err why) out = refl
 
 -- ---- rows 4 and 1 of the refusal table, in this order, and the text where neither applies
 
