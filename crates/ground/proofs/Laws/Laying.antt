@@ -11,7 +11,7 @@ use lib.Seq.{take_at, drop-drop, length-take-le, set_split, take_all, drop-appen
 use borrow.Author.Tests.{lt-ltb, le-ltb, ltb-false}
 use lib.Dec.{ltb}
 use borrow.Rule.Slice.PartMut.{put_mid, mid_of, Post-is}
-use Rattle.std.specs.Prelude.{Result}
+use Rattle.std.specs.Prelude.{Result, Ok, Err}
 use Rattle.ground.specs.declared.refusal.Refusal.{Refusal}
 use Rattle.ground.specs.declared.refusal.Refusal.TheVariants.{NoRoom}
 use Rattle.ground.specs.Refusals.{number, Keeps}
@@ -187,3 +187,10 @@ puts-placed {out} {at} (then {y} x k o says more) begins fits =
 pub puts-some : {out : List ℕ} {at : ℕ} {text : List ℕ} (why : Refusal) {end : ℕ} {o : List ℕ}
     → Puts out at text (record { refusal = number why; end = end; out = o }) → at ≤ length out → length text ≤ length out - at → ⊥
 puts-some why puts begins fits = number-some why (ap (λ (e : Ended). e.refusal) (puts-placed puts begins fits))
+
+-- so the last of them, which began elsewhere, ends as one call that puts the whole text
+pub puts-whole : {out : List ℕ} {at : ℕ} {text : List ℕ} (from : ℕ) (r : Result ℕ Refusal) (o : List ℕ) → Puts out at text (ended from r o)
+    → at ≤ length out → length text ≤ length out - at
+    → ended at r o ≡ put text out at
+puts-whole {out} {at} {text} from (Ok end) o puts begins fits = puts-placed puts begins fits ∙ sym (put-placed text out at fits)
+puts-whole from (Err why) o puts begins fits = absurd (puts-some why puts begins fits)
