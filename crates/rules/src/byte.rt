@@ -31,16 +31,14 @@ fn inside(station: Station, count: usize, byte: u8) -> Turn
         return Turn::Stop;
     }
     match station {
-        Station::Point => plain(count, byte),
-        Station::Addressed(own) => {
-            if count > 0 {
-                return plain(count, byte);
-            }
+        Station::Addressed(own) if count == 0 => {
             if takes(own, byte) {
-                return kept(count, byte);
+                kept(count, byte)
+            } else {
+                Turn::Tell(Event::Addr)
             }
-            Turn::Tell(Event::Addr)
         }
+        _ => plain(count, byte),
     }
 }
 

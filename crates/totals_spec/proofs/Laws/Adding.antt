@@ -8,8 +8,9 @@ use native.Mathlib.Nat.{add-zero}
 use native.Mathlib.Omega.{arith}
 use lib.Dec.{eqb, ltb}
 use lib.ListN.{length, length-append}
+use Rattle.std.specs.Prelude.{Result, Ok, Err}
 use Rattle.ground.specs.declared.refusal.Refusal.{Refusal}
-use Rattle.ground.specs.declared.refusal.Refusal.TheVariants.{None, BadState, TapeTooLong}
+use Rattle.ground.specs.declared.refusal.Refusal.TheVariants.{BadState, TapeTooLong}
 use Rattle.ground.specs.Refusals.{number, Keeps}
 use Rattle.ground.proofs.Laws.Choice.{cond-elim, or-none}
 use Rattle.link_spec.specs.Receiving.{bad_receiver}
@@ -22,7 +23,7 @@ use Rattle.tape_spec.specs.Taping.{tape_of, is_over, awaits_body, bad_receivers,
 use Rattle.tape_spec.proofs.Laws.Fine.{on_fine, receivers-fine, tape-fine}
 use Rattle.totals_spec.specs.declared.totals.Totals.{Totals}
 use Rattle.totals_spec.specs.declared.totals.Report.{Report}
-use Rattle.totals_spec.specs.Whole.{Reported, ranked, in_order, line_report, no_report, is_full}
+use Rattle.totals_spec.specs.Whole.{Reported, ranked, line_report, no_report, is_full}
 use Rattle.totals_spec.specs.Adding.{fresh_totals, Account, totals_of, after_bytes, Chunk, chunk_of, sums_at, account_at, totals_after, bad_sums, bad_totals, AddedOut, added, reported_by, reported}
 use Rattle.totals_spec.proofs.Laws.Chunks.{chunk-over, chunk-append, chunk-few}
 use Rattle.totals_spec.proofs.Laws.Counting.{after-append, bytes-append, bytes-few, after-good, SumsWithin, sums-within, within-fine, within_more, after-within}
@@ -148,17 +149,16 @@ module _ (t : Totals) where
   reports good short = rw (good, short)
 
 -- every report has a result
-abbrev answer : Refusal → Reported → Report
-answer why d = record { refusal = why; first = d.first; second = d.second; ending = d.ending; records = d.records }
-
-pub reported-answers : (t : Totals) → (r : Report) × (reported_by r ≡ reported t)
+pub reported-answers : (t : Totals) → (r : Result Report Refusal) × (reported_by r ≡ reported t)
 unfolding reported ranked
 reported-answers t =
     let e = ending t.tape.next in
     let p = line_report Point t.point in
     let a = line_report Addressed t.addressed in
-    let Answers : Reported → Type 0 = λ d. (r : Report) × (reported_by r ≡ d) in
-    cond-elim Answers (bad_totals t) (λ bad. (answer BadState (no_report BadState), refl))
-    (λ good. cond-elim Answers (is_full e) (λ full. (answer TapeTooLong (no_report TapeTooLong), refl))
-    (λ short. cond-elim Answers (ltb t.point.heard t.addressed.heard) (λ louder. (answer None (in_order a p e t.tape.records), refl))
-    (λ other. (answer None (in_order p a e t.tape.records), refl))))
+    let n = t.tape.records in
+    let Answers : Reported → Type 0 = λ d. (r : Result Report Refusal) × (reported_by r ≡ d) in
+    cond-elim Answers (bad_totals t) (λ bad. (Err BadState, refl))
+    (λ good. cond-elim Answers (is_full e) (λ full. (Err TapeTooLong, refl))
+    (λ short. cond-elim Answers (ltb t.point.heard t.addressed.heard)
+    (λ louder. (Ok (record { first = a; second = p; ending = e; records = n }), refl))
+    (λ other. (Ok (record { first = p; second = a; ending = e; records = n }), refl))))

@@ -9,7 +9,7 @@ use native.Mathlib.Nat.{zero-add}
 use native.Mathlib.Omega.{arith}
 use lib.ListN.{length, drop, drop_of_length-le}
 use lib.Seq.{drop-append_seam}
-use Rattle.ground.specs.declared.refusal.Refusal.TheVariants as refusal
+use Rattle.std.specs.Prelude.{Ok}
 use Rattle.ground.specs.declared.refusal.Refusal.TheVariants.{TapeTooLong}
 use Rattle.ground.proofs.Laws.Lists.{drop-on}
 use Rattle.tape_spec.specs.declared.tape.Line.{Line}
@@ -22,9 +22,8 @@ use Rattle.tape_spec.specs.Sessions.{Listing}
 use Rattle.tape_spec.proofs.Laws.Whole.{parts-few}
 use Rattle.tape_spec.proofs.Laws.Sessions.{listing-shows}
 use Rattle.totals_spec.specs.declared.totals.Totals.{Totals}
-use Rattle.totals_spec.specs.declared.totals.Added.{Added}
 use Rattle.totals_spec.specs.Whole.{sums_on, line_report, Reported, ranked, nothing, no_report, is_full, report_of}
-use Rattle.totals_spec.specs.Adding.{fresh_totals, account, after_bytes, totals_after, AddedOut, reported}
+use Rattle.totals_spec.specs.Adding.{fresh_totals, account, after_bytes, totals_after, AddedOut, added_out, reported}
 use Rattle.totals_spec.specs.Sessions.{TotalsSession, over, call, Reporting, begun, RunsOver, part_of, Bounded, Ranked}
 use Rattle.totals_spec.proofs.Laws.Chunks.{chunk-parts}
 use Rattle.totals_spec.proofs.Laws.Adding.{totals-over, totals-none, totals-append, Fine, fine-good, fresh-fine, totals-fine, adds, reported-answers}
@@ -42,7 +41,7 @@ module _ (bytes : List ℕ) where
       says ∙ ap reported (sym (totals-none t) ∙ ap (totals_after t) (sym (drop_of_length-le bytes out)))
   session-reports {t} {before} fine (over r (inr out) says) = says ∙ ap reported (sym (totals-over t (drop before bytes) out))
   session-reports {t} {before} fine (call chunk rest r continues says more) =
-      let is : r.totals ≡ totals_after t chunk = ap (λ (d : AddedOut). d.totals) (says ∙ adds t chunk (fine-good fine)) in
+      let is : (added_out t r).totals ≡ totals_after t chunk = ap (λ (d : AddedOut). d.totals) (says ∙ adds t chunk (fine-good fine)) in
       let left : drop (before + length chunk) bytes ≡ rest = drop-on bytes before (length chunk) continues ∙ drop-append_seam chunk rest in
       session-reports (subst⁻¹ Fine is (totals-fine fine chunk)) more
       ∙ ap₂ (λ (u : Totals) (l : List ℕ). reported (totals_after u l)) is left
@@ -96,10 +95,9 @@ report-is {bytes} (begun fresh session) =
 pub report-some : (bytes : List ℕ) → (out : Reported) × Reporting bytes out
 report-some bytes =
     let t = totals_after fresh_totals bytes in
-    let r : Added = record { refusal = refusal.None; totals = t } in
     let a = reported-answers t in
     let all : bytes ≡ bytes ++ [] = sym (append-nil bytes) in
-    (_, begun refl (call bytes [] r all (sym (adds fresh_totals bytes (fine-good fresh-fine))) (over {before = 0 + length bytes} a.0 (inl (omega arith)) a.1)))
+    (_, begun refl (call bytes [] (Ok t) all (sym (adds fresh_totals bytes (fine-good fresh-fine))) (over {before = 0 + length bytes} a.0 (inl (omega arith)) a.1)))
 
 -- ---- refused exactly where a byte follows the last permitted record
 

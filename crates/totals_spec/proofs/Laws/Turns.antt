@@ -5,6 +5,7 @@ use mathlib.Core.Bool.{false, cond}
 use mathlib.Core.List.{List, [], ◌∷◌}
 use Prim.Native.Nat.{ℕ, ◌+◌}
 use lib.ListN.{take}
+use Rattle.std.specs.Prelude.{Some}
 use Rattle.link_spec.specs.declared.station.Station.{Station}
 use Rattle.link_spec.specs.declared.event.Event.{Event}
 use Rattle.link_spec.specs.declared.receiver.Phase.{Phase}
@@ -28,7 +29,7 @@ NoFrame Begin = Unit {0}
 NoFrame Wait = Unit {0}
 NoFrame (Keep b) = Unit {0}
 NoFrame Stop = Unit {0}
-NoFrame (Tell why) = is_frame (named why) ≡ false
+NoFrame (Tell why) = is_frame (named (Some why)) ≡ false
 
 rule-no-frame : {station : Station} {count b : ℕ} {phase : Phase} {t : Turn} → ByRule station count b phase t → NoFrame t
 rule-no-frame (ignored f) = tt
@@ -68,8 +69,8 @@ module _ (s : Receiver) (sums : Sums) (b : ℕ) (bs : List ℕ) (good : bad_rece
       → after_bytes (account s sums) (b ∷ bs) ≡ after_bytes (account (outside s.station s.content) (with_bytes 1 sums)) bs
   unfolding moved outcome
   tell-turn {why} is =
-      let e : received s (b ∷ []) ≡ said_of (outside s.station s.content) (telling why 0) (0 + 1) = byte-said ∙ rw (← is) refl in
-      let none : is_frame (named why) ≡ false = subst⁻¹ NoFrame is (rule-no-frame (turn-rule s.station s.phase s.count b)) in
+      let e : received s (b ∷ []) ≡ said_of (outside s.station s.content) (Some (telling why 0)) (0 + 1) = byte-said ∙ rw (← is) refl in
+      let none : is_frame (named (Some why)) ≡ false = subst⁻¹ NoFrame is (rule-no-frame (turn-rule s.station s.phase s.count b)) in
       said-counts e ∙ rw none refl
 
   -- a stop byte
@@ -77,8 +78,8 @@ module _ (s : Receiver) (sums : Sums) (b : ℕ) (bs : List ℕ) (good : bad_rece
       → let v = verdict (check_on s.station) (so_far s) in
       after_bytes (account s sums) (b ∷ bs)
       ≡ after_bytes (account (outside s.station s.content)
-      (cond (is_frame (named v.event)) (with_frame s.station (take v.length s.content) (with_bytes 1 sums)) (with_bytes 1 sums))) bs
+      (cond (is_frame (named (Some v.event))) (with_frame s.station (take v.length s.content) (with_bytes 1 sums)) (with_bytes 1 sums))) bs
   unfolding moved outcome
   stop-turn is =
       let v = verdict (check_on s.station) (so_far s) in
-      let e : received s (b ∷ []) ≡ said_of (outside s.station s.content) v (0 + 1) = byte-said ∙ rw (← is) refl in said-counts e
+      let e : received s (b ∷ []) ≡ said_of (outside s.station s.content) (Some v) (0 + 1) = byte-said ∙ rw (← is) refl in said-counts e
