@@ -26,10 +26,7 @@ pub fn write_image(content: &[u8], out: &mut [u8]) -> Result<usize, Refusal>
 {
     let stuffed = stuffed_length(content);
     // apart, since the stuffing of a very long content and two bytes more could be more than a number holds
-    if out.len() < 2 {
-        return Err(Refusal::NoRoom);
-    }
-    if out.len() - 2 < stuffed {
+    if out.len() < 2 || out.len() - 2 < stuffed {
         return Err(Refusal::NoRoom);
     }
     out[0] = START;

@@ -29,10 +29,8 @@ pub(crate) fn stuff(content: &[u8], room: &mut [u8]) -> usize
     ensures { (result ≡ length (stuffing_of content.now)) × (room.new ≡ laid room.old 0 (stuffing_of content.now)) }
 {
     let mut at: usize = 0;
-    let mut i: usize = 0;
-    while i < content.len() {
-        at = stuff_byte(content[i], room, at);
-        i += 1;
+    for &byte in content {
+        at = stuff_byte(byte, room, at);
     }
     at
 }
@@ -43,12 +41,10 @@ pub(crate) fn stuffed_length(content: &[u8]) -> usize
     ensures { result ≡ length (stuffing_of content.now) }
 {
     let mut length = content.len();
-    let mut i: usize = 0;
-    while i < content.len() {
-        if content[i] >= FIRST_SPECIAL {
+    for &byte in content {
+        if byte >= FIRST_SPECIAL {
             length += 1;
         }
-        i += 1;
     }
     length
 }

@@ -9,14 +9,13 @@ use Rattle.wire_spec.proofs.Laws.Image.{length-image, image-stuffing}
 use Rattle.wire_spec.proofs.Laws.Writing.{length-answered}
 use Rattle.wire.proofs.image.image_length.Goals as goal
 
-pub overflow_add-stuffed_length : goal.overflow_add-stuffed_length
-overflow_add-stuffed_length c =
+pub overflow_add-result : goal.overflow_add-result
+overflow_add-result c =
     let content = c.args.content.now in
     omega (arith, c.stuffed_length.ensures, length-stuffing content, specials-most content)
 
 pub returns : goal.returns
 returns c =
     let content = c.args.content.now in
-    c.of.ensures
-    ∙ ap counted (ap (λ (n : ℕ). 2 + n) c.stuffed_length.ensures ∙ sym (image-stuffing content) ∙ length-image content)
+    ap counted (ap (λ (n : ℕ). 2 + n) c.stuffed_length.ensures ∙ sym (image-stuffing content) ∙ length-image content)
     ∙ sym (length-answered content (omega arith))

@@ -29,5 +29,5 @@ returns c =
     let h : length (image content) ≤ length out = omega (arith, image-stuffing content) in
     rw (written-whole content out h)
     (ap₂ leaving
-    (c.of.ensures ∙ ap counted (ap (λ (n : ℕ). 2 + n) stuffed ∙ sym (image-stuffing content)))
+    (ap counted (ap (λ (n : ℕ). 2 + n) stuffed ∙ sym (image-stuffing content)))
     (ap₂ (λ (l : List ℕ) (k : ℕ). set l (1 + k) stop) back stuffed ∙ image-laid content out h))

@@ -2,7 +2,7 @@
 -- Assumes nothing.
 use mathlib.Core.Path.{◌≡◌, ap, ap₂, ◌∙◌}
 use mathlib.Core.List.{List, ◌++◌}
-use Prim.Native.Nat.{ℕ, ◌+◌, ◌≤◌, ◌<◌}
+use Prim.Native.Nat.{ℕ, ◌+◌, ◌<◌}
 use native.Mathlib.Omega.{arith}
 use lib.ListN.{length, drop, get_or, length-append, drop_of_length-le}
 use Rattle.ground.specs.Laying.{laid}
@@ -22,25 +22,24 @@ next-length s i h = ap length (next s i h) ∙ simp length-append
 
 pub stuff_byte-at-requires : goal.stuff_byte-at-requires
 stuff_byte-at-requires c =
-    omega (arith, next-length c.args.content.now c.loop-i.i c.loop-i-test.true)
+    omega (arith, next-length c.args.content.now c.loop-byte.byte-index c.loop-byte-test.true)
 
-pub loop-i-preserved : goal.loop-i-preserved
-loop-i-preserved c =
+pub loop-byte-preserved : goal.loop-byte-preserved
+loop-byte-preserved c =
     let s = c.args.content.now in
-    let h : c.loop-i.i < length s = omega arith in
+    let h = c.loop-byte-test.true in
     let e = c.stuff_byte-at.ensures in (
       omega arith,
-      omega arith,
-      omega (arith, next-length s c.loop-i.i h),
-      ap₂ (λ (l : List ℕ) (k : ℕ). laid l k (stuffing (drop (c.loop-i.i + 1) s))) e.1 e.0
-          ∙ laid_more c.loop-i.room c.loop-i.at (stuffed (get_or s c.loop-i.i 0)) (stuffing (drop (c.loop-i.i + 1) s)) (omega arith)
-          ∙ rw (next s c.loop-i.i h) at c.loop-i.invariant.3,
+      omega (arith, next-length s c.loop-byte.byte-index h),
+      ap₂ (λ (l : List ℕ) (k : ℕ). laid l k (stuffing (drop (c.loop-byte.byte-index + 1) s))) e.1 e.0
+          ∙ laid_more c.loop-byte.room c.loop-byte.at (stuffed (get_or s c.loop-byte.byte-index 0)) (stuffing (drop (c.loop-byte.byte-index + 1) s)) (omega arith)
+          ∙ rw (next s c.loop-byte.byte-index h) at c.loop-byte.invariant.2,
     )
 
 pub returns : goal.returns
 unfolding stuffing
 returns c =
-    let h : length c.args.content.now ≤ c.loop-i.i = omega arith in (
+    let h = c.loop-byte-test.false in (
       omega (arith, ap (λ (s : List ℕ). length (stuffing s)) (drop_of_length-le c.args.content.now h)),
-      rw (drop_of_length-le, laid_nil) at c.loop-i.invariant.3,
+      rw (drop_of_length-le, laid_nil) at c.loop-byte.invariant.2,
     )

@@ -1,9 +1,8 @@
 -- `stuffing::stuffed_length`: at each turn, the length so far and the specials of what is left make the length of the whole, stuffed.
 -- Assumes nothing.
 use mathlib.Core.Path.{ap}
-use Prim.Native.Nat.{◌≤◌}
 use native.Mathlib.Omega.{arith}
-use lib.ListN.{length, drop_of_length-le}
+use lib.ListN.{drop_of_length-le}
 use Rattle.wire_spec.specs.Stuffing.{specials}
 use Rattle.wire_spec.proofs.Laws.Stuffing.{length-stuffing}
 use Rattle.wire.proofs.stuffing.stuffed_length.Goals as goal
@@ -12,5 +11,4 @@ pub returns : goal.returns
 unfolding specials
 returns c =
     let content = c.args.content.now in
-    let h : length content ≤ c.loop-i.i = omega arith in
-    omega (arith, ap specials (drop_of_length-le content h), length-stuffing content)
+    omega (arith, ap specials (drop_of_length-le content c.loop-byte-test.false), length-stuffing content)
