@@ -12,6 +12,7 @@ const DATA: u8 = 3;
 const NOTHING: u8 = 4;
 
 // What a request with this code and data makes a log do in which so many wait.
+#[tactic(auto, unfolding(event_log_spec::specs::Doing::doing))]
 pub(crate) fn doing(code: u8, data: &[u8], waiting: usize) -> Doing
     ensures { result ≡ doing_of code «data».now waiting }
 {

@@ -16,6 +16,7 @@ use request_spec::{ACK, SIGN};
 
 // Answers what a receiver heard: an event with its content, the check cut off. Only a FRAME has an answer. Refuses a bad log (BadState), `out`
 // under 130 bytes (NoRoom), and a FRAME with fewer than 3 or more than 63 bytes of content (BadRequest), in this order.
+#[tactic(auto, unfolding(event_log_spec::specs::Answering::answered_to))]
 pub(crate) fn answered(log: Log, event: Option<Event>, content: &[u8], out: &mut [u8]) -> Result<Answered, Refusal>
     ensures { answered_as log result out.new ≡ answered_to log (input_of (named event) content.now) out.old }
 {

@@ -28,6 +28,7 @@ pub(crate) fn is_bad(log: &Log) -> bool
 }
 
 // The log with a new entry, which waits; a full one drops the oldest. Refuses a bad log (BadState).
+#[tactic(auto, unfolding(event_log_spec::specs::Appending::appended_to))]
 pub(crate) fn appended(log: Log, body: [u8; BODY_LENGTH]) -> Result<Log, Refusal>
     ensures { appended_as log result ≡ appended_to log body }
 {
@@ -95,6 +96,7 @@ pub(crate) fn oldest_waiting(log: &Log) -> [u8; ENTRY_LENGTH]
 }
 
 // The identifier that is so many before the next one.
+#[tactic(auto, unfolding(event_log_spec::specs::Log::identifier_before))]
 fn identifier_before(next: u32, count: usize) -> u32
     requires { count ≤ most_held }
     ensures { result ≡ identifier_before next count }

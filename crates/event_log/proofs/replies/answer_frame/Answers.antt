@@ -18,7 +18,7 @@ returns c =
     let content = a.content.now in
     let done = c.doing-doing.ensures ∙ ap (λ («data» : List ℕ). doing_of (code_in content) «data» log.waiting) (take_rest content 3) in
     let replied =
-    c.write_reply-counted.ensures
+    rw c.in_ok-count.was at c.write_reply.ensures
     ∙ ap (λ (d : Doing). putting (reply_content (identifier_in content) (code_in content) (reply_of log d)) a.out.now) done in
     let waiting = c.waiting_after.ensures ∙ ap (waiting_after log.held log.waiting) done in
     λ i. record {
