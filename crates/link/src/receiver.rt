@@ -36,37 +36,41 @@ fn hear(receiver: Receiver, piece: &[u8]) -> Heard
     let mut phase = receiver.phase;
     let mut count = receiver.count;
     let mut content = receiver.content;
-    let found = 'piece: {
-        for (i, &byte) in piece.iter().enumerate() {
-            match at_byte(station, phase, count, byte) {
-                Turn::Rest => {}
-                Turn::Begin => {
-                    phase = Phase::Inside;
-                    count = 0;
-                }
-                Turn::Wait => phase = Phase::Pending,
-                Turn::Keep(byte) => {
-                    content[count] = byte;
-                    phase = Phase::Inside;
-                    count += 1;
-                }
-                Turn::Stop => {
-                    let verdict = at_stop(station, &content[..count]);
-                    break 'piece Found { verdict, taken: i + 1 };
-                }
-                Turn::Tell(event) => {
-                    let verdict = Verdict { event, length: 0 };
-                    break 'piece Found { verdict, taken: i + 1 };
-                }
+    let mut taken: usize = 0;
+    // counted by hand, since a `for` over the bytes takes half as long again where many are stuffed
+    let found = loop {
+        if taken == piece.len() {
+            let receiver = Receiver {
+                station,
+                phase,
+                count,
+                content,
+            };
+            return heard_with(receiver, None, taken);
+        }
+        let turn = at_byte(station, phase, count, piece[taken]);
+        taken += 1;
+        match turn {
+            Turn::Rest => {}
+            Turn::Begin => {
+                phase = Phase::Inside;
+                count = 0;
+            }
+            Turn::Wait => phase = Phase::Pending,
+            Turn::Keep(byte) => {
+                content[count] = byte;
+                phase = Phase::Inside;
+                count += 1;
+            }
+            Turn::Stop => {
+                let verdict = at_stop(station, &content[..count]);
+                break Found { verdict, taken };
+            }
+            Turn::Tell(event) => {
+                let verdict = Verdict { event, length: 0 };
+                break Found { verdict, taken };
             }
         }
-        let receiver = Receiver {
-            station,
-            phase,
-            count,
-            content,
-        };
-        return heard_with(receiver, None, piece.len());
     };
     heard_with(outside(station, content), Some(found.verdict), found.taken)
 }

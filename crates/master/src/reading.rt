@@ -4,9 +4,7 @@ ghost use Rattle.request_spec.specs.Replies.{data_of};
 ghost use Rattle.request_spec.specs.Reading.{understood, is_due, data_read, sign_read, read_as, reply_read};
 
 use ground::Refusal;
-use request::{
-    ACK, Command, HEADER_LENGTH, Meaning, SIGN, accept, is_code, length_of,
-};
+use request::{ACK, Command, HEADER_LENGTH, Meaning, SIGN, accept, is_code, length_of};
 
 const MOST_NACK: u8 = 6;
 

@@ -1,10 +1,11 @@
 // The call that does the steps of the point reader.
-ghost use Rattle.std.specs.Prelude.{◌≡◌, true, ◌∷◌, Ok};
+ghost use Rattle.std.specs.Prelude.{◌≡◌, ◌≤◌, length, true, ◌∷◌, List, ℕ, Ok};
 ghost use Rattle.link_spec.specs.Events.{named, FRAME};
 ghost use Rattle.request_spec.specs.Acceptance.{FitsCommand};
+ghost use Rattle.reader_spec.specs.Limits.{room};
 ghost use Rattle.reader_spec.specs.State.{state_of};
 ghost use Rattle.reader_spec.specs.Sending.{buffers_of};
-ghost use Rattle.reader_spec.specs.Answering.{input_of, answer_says, LentWell, executed as executed_of, framed, is_front, fits as fits_of, admitted, Answers};
+ghost use Rattle.reader_spec.specs.Answering.{input_of, answer_says, LentWell, nacked as nacked_of, executed as executed_of, framed, is_front, fits as fits_of, Answers};
 
 use crate::asking::asked_by;
 use crate::memory::find;
@@ -19,7 +20,7 @@ use request::{Command, HEADER_LENGTH, MOST_ANTENNA, nack_of};
 // Answers what a receiver heard: an event with its content, the check cut off. What is to be sent stands in `out`, on a repeat in
 // `store`; `to_send` hands it back. Refuses a reader as `power_on` does (BadState), `store` or `out` under 130 bytes (NoRoom), an
 // antenna's answer over 8 (TooLong), and a FRAME or CHECK with fewer than 2 or more than 62 bytes of content (BadRequest), in this
-// order; a refusal leaves the reader and both buffers as they were.
+// order; a refusal leaves both buffers as they were.
 pub fn answer(
     reader: Reader,
     event: Option<Event>,
@@ -40,33 +41,13 @@ pub fn answer(
     if antenna.len() > MOST_ANTENNA {
         return Err(Refusal::TooLong);
     }
-    admit(reader, event, content, header, antenna, store, out)
-}
-
-// The same, where only the content may have to be refused.
-fn admit(
-    reader: Reader,
-    event: Option<Event>,
-    content: &[u8],
-    header: [u8; HEADER_LENGTH],
-    antenna: &[u8],
-    store: &mut [u8],
-    out: &mut [u8],
-) -> Result<Answer, Refusal>
-    requires { LentWell (input_of (named event) content.now header antenna.now) (buffers_of store.old out.old) }
-    ensures { answer_says reader result (buffers_of store.new out.new) ≡ admitted (state_of reader) (input_of (named event) content.now header antenna.now) (buffers_of store.old out.old) }
-{
     let asking = asked_by(event);
     if !fits(asking, content) {
         return Err(Refusal::BadRequest);
     }
     Ok(match asking {
         Asking::Nothing => sending(reader, Buffer::Out, 0),
-        Asking::Wrong => sending(
-            reader,
-            Buffer::Out,
-            write_nack(content[0], WRONG_CHECK, out),
-        ),
+        Asking::Wrong => nacking(reader, content[0], WRONG_CHECK, out),
         Asking::Right => answer_frame(reader, content, header, antenna, store, out),
     })
 }
@@ -93,11 +74,7 @@ fn answer_frame(
         Ok(command) => execute(
             reader, identifier, code, data, command, header, antenna, store, out,
         ),
-        Err(fault) => sending(
-            reader,
-            Buffer::Out,
-            write_nack(identifier, nack_of(fault), out),
-        ),
+        Err(fault) => nacking(reader, identifier, nack_of(fault), out),
     }
 }
 
@@ -150,6 +127,14 @@ fn is_front(content: &[u8]) -> bool
     ensures { result ≡ is_front content.now }
 {
     (LEAST_FRONT..=MOST_FRONT).contains(&content.len())
+}
+
+// The same reader, and a NACK to send.
+fn nacking(reader: Reader, identifier: u8, number: u8, out: &mut [u8]) -> Answer
+    requires { room ≤ length out.old }
+    ensures { (store : List ℕ) → answer_says reader (Ok result) (buffers_of store out.new) ≡ nacked_of (state_of reader) identifier number (buffers_of store out.old) }
+{
+    sending(reader, Buffer::Out, write_nack(identifier, number, out))
 }
 
 // This reader from now on, and so many bytes of a buffer to send.

@@ -20,6 +20,7 @@ pub fn kind_of(line: Line) -> u8
 }
 
 // What follows a kind byte that comes after this many whole records.
+#[tactic(auto, unfolding(tape_spec::specs::Coming::coming_after))]
 pub fn after_kind(records: u32, kind: u8) -> Next
     ensures { coming result ≡ coming_after records kind }
 {

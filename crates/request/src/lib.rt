@@ -12,7 +12,7 @@ pub use command::{accept, nack_of};
 pub use device::header;
 pub use parameter::{is_speed, length_of};
 pub use request_spec::{
-    ACK, CELL_LENGTH, Card, Command, Fault, HEADER_LENGTH, MOST_ANTENNA, Meaning,
-    NAME_LENGTH, Parameter, SETTINGS_LENGTH, SIGN,
+    ACK, CELL_LENGTH, Card, Command, Fault, HEADER_LENGTH, MOST_ANTENNA, Meaning, NAME_LENGTH,
+    Parameter, SETTINGS_LENGTH, SIGN,
 };
 pub use writer::write_request;

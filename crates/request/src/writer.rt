@@ -9,6 +9,7 @@ use ground::Refusal;
 
 // Writes the image of a request's frame to the front of `out`, and answers its length. Refuses a code that does not exist and data that
 // it does not accept (BadRequest), and `out` shorter than the image (NoRoom), in this order; a refusal leaves `out` as it was.
+#[tactic(auto, unfolding(request_spec::specs::Requesting::request_written))]
 pub fn write_request(
     identifier: u8,
     code: u8,

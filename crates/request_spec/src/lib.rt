@@ -1,5 +1,5 @@
-// Typed requests and their replies, as types alone: the commands and parameters, the device header's places, and what the master reads in a
-// reply. What is so is in specs/; the crates `request` and `master` do it.
+// Typed requests and their replies, as types alone: the commands and parameters, the device header's places, what the master reads in a
+// reply, and the refusal of a request that is faulty. What is so is in specs/; the crates `request` and `master` do it.
 #![tactic(auto)]
 
 mod command;

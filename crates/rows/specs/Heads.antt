@@ -1,6 +1,5 @@
--- What a row begins with, and how much of an event it shows. It serves contracts of private functions. Assumes nothing.
-use Rattle.std.specs.Prelude.{ℕ, ◌≤◌, ◌≡◌, List, ◌++◌, length, take}
-use Rattle.wire_spec.specs.Limits.{most_content}
+-- What a row begins with. It serves contracts of private functions. Assumes nothing.
+use Rattle.std.specs.Prelude.{ℕ, List, ◌++◌}
 use Rattle.link_spec.specs.Events.{Name}
 use Rattle.text.specs.Decimal.{decimal}
 use Rattle.tape_spec.specs.declared.tape.Line.{Line}
@@ -13,8 +12,3 @@ most_head = 19
 -- the number of a row's record, the line's letter and the event's name
 abbrev pub head_of : ℕ → Line → Name → List ℕ
 head_of number line event = decimal number ++ (letter line ++ name_of event)
-
--- of an array that holds the longest content, so many bytes are those that an event of this length has
-pub record Shown (asked r : ℕ) : Type 0 where
-  pub within : r ≤ most_content
-  pub same : (l : List ℕ) → length l ≡ most_content → take r l ≡ take asked l

@@ -7,10 +7,9 @@ ghost use Rattle.tape_spec.specs.Rows.{letter as letter_of, row, name_of, heard_
 ghost use Rattle.rows.specs.Heads.{most_head, head_of};
 
 use ground::{Refusal, put, room};
-use link_spec::{Event, Heard, Verdict};
+use link_spec::{Event, Heard};
 use tape_spec::Line;
 use text::{put_decimal, put_pairs};
-use wire_spec::MOST_CONTENT;
 
 // Places for the longest head of a row: 10 digits, a letter, a name of 5 letters and 3 blanks.
 const MOST_HEAD: usize = 19;
@@ -26,18 +25,15 @@ pub fn put_heard(
 ) -> Result<usize, Refusal>
     ensures { ended at result out.new ≡ put_of (heard_row number line (saying heard.receiver (Ok heard))) out.old at }
 {
-    match heard.told {
-        None => Ok(at),
-        Some(Verdict {
-            event: Event::Frame,
-            length,
-        }) => {
-            // the array has no more than it may hold
-            let shown = length.min(MOST_CONTENT);
-            put_row(number, line, Event::Frame, &heard.content[..shown], out, at)
-        }
-        Some(Verdict { event, .. }) => put_row(number, line, event, &[], out, at),
-    }
+    let Some(told) = heard.told else {
+        return Ok(at);
+    };
+    // only a frame's content is shown
+    let shown = match told.event {
+        Event::Frame => told.length.min(heard.content.len()),
+        _ => 0,
+    };
+    put_row(number, line, told.event, &heard.content[..shown], out, at)
 }
 
 // Puts a row with the name of an event, and the content that it shows. Refuses an `out` that ends before the row (NoRoom).

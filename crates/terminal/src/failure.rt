@@ -17,7 +17,7 @@ struct Said {
 
 impl Write for Said {
     fn write_str(&mut self, part: &str) -> fmt::Result {
-        self.length = put(part.as_bytes(), &mut self.letters, self.length).end;
+        self.length = put(part.as_bytes(), &mut self.letters, self.length).unwrap_or(self.length);
         Ok(())
     }
 }
@@ -35,20 +35,10 @@ impl Said {
 
     // The system's text, without the number that std puts behind it.
     fn text(&self) -> &str {
-        let letters: &[u8] = &self.letters;
-        let length = self.length;
-        let whole = if length < letters.len() {
-            &letters[..length]
-        } else {
-            letters
-        };
-        let Ok(whole) = from_utf8(whole) else {
-            return "";
-        };
-        match whole.rsplit_once(" (os error ") {
-            Some((text, _)) => text,
-            None => whole,
-        }
+        let whole = from_utf8(&self.letters[..self.length.min(PLACES)]).unwrap_or("");
+        whole
+            .rsplit_once(" (os error ")
+            .map_or(whole, |(text, _)| text)
     }
 }
 

@@ -16,7 +16,7 @@ use std::io::{IsTerminal, Write};
 use std::time::Clock;
 
 // A standard stream.
-#[derive(Clone, Copy)]
+#[derive(Clone, Copy, Debug, PartialEq, Eq)]
 pub enum Stream {
     Input,
     Output,
@@ -76,9 +76,8 @@ fn say(rt: &HostRuntime, text: &[u8]) {
 
 // The seconds since 1970; 0 where the clock cannot tell.
 fn clock(rt: &HostRuntime) -> u64 {
-    let answer = match rt.since_1970() {
-        Ok(time) => i64::try_from(time.as_secs()).unwrap_or(-1),
-        Err(_) => -1,
-    };
+    let answer = rt
+        .since_1970()
+        .map_or(-1, |time| i64::try_from(time.as_secs()).unwrap_or(-1));
     seconds(answer)
 }

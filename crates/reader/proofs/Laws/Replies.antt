@@ -1,16 +1,18 @@
 -- A reply's frame is written whole: it fits the buffers that a reader is lent.
 -- Assumes nothing.
-use mathlib.Core.Path.{◌≡◌, ap, ◌∙◌}
+use mathlib.Core.Path.{◌≡◌, refl, ap, ◌∙◌}
 use mathlib.Core.Bool.{Bool, cond}
 use mathlib.Core.List.{List}
 use Prim.Native.Nat.{ℕ, ◌≤◌}
 use native.Mathlib.Omega.{arith}
 use lib.ListN.{length, take, drop, length-append}
 use lib.Seq.{take-append_seam}
-use Rattle.ground.specs.declared.refusal.Counted.{Counted}
-use Rattle.ground.specs.Refusals.{counted}
+use Rattle.std.specs.Prelude.{Result, Ok, Err, IsOk}
+use Rattle.ground.specs.declared.refusal.Refusal.{Refusal}
+use Rattle.ground.specs.Refusals.{tally}
+use Rattle.ground.proofs.Laws.Refusals.{number-some}
 use Rattle.wire_spec.specs.Image.{image}
-use Rattle.wire_spec.specs.Writing.{After, after, leaving}
+use Rattle.wire_spec.specs.Writing.{After, after, putting}
 use Rattle.link_spec.specs.Limits.{most_data}
 use Rattle.link_spec.specs.Frame.{point_content}
 use Rattle.link_spec.specs.Writers.{point_written}
@@ -26,15 +28,24 @@ use Rattle.reader_spec.proofs.Laws.Replies.{point-room}
 use Rattle.reader.specs.Replies.{Fills}
 
 -- the writer refuses no frame with data within the limit
-pub reply-put : (r : Counted) (identifier command : ℕ) («data» out : List ℕ) {out' : List ℕ} → length «data» ≤ most_data → room ≤ length out
-    → after r out' ≡ point_written identifier command «data» out
-    → Fills r.count out' (point_content identifier command «data») out
-reply-put r identifier command «data» out fits long says =
-    let within = point-room identifier command «data» fits in
-    let written = says ∙ point-writes identifier command «data» out fits (omega arith) in (
-      ap (λ (a : After). leaving (counted a.tally.count) a.out) written,
-      omega (arith, ap (λ (a : After). a.tally.count) written),
-    )
+not-refused : (r : Result ℕ Refusal) → (tally r).refusal ≡ 0 → IsOk r
+not-refused (Ok n) e = refl
+not-refused (Err why) e = absurd (number-some why e)
+
+module _ (identifier command : ℕ) («data» out : List ℕ) (fits : length «data» ≤ most_data) (long : room ≤ length out) where
+  content-room : length (image (point_content identifier command «data»)) ≤ room
+  content-room = point-room identifier command «data» fits
+
+  written : point_written identifier command «data» out ≡ putting (point_content identifier command «data») out
+  written = point-writes identifier command «data» out fits (omega (arith, content-room))
+
+  pub reply-fine : (r : Result ℕ Refusal) {out' : List ℕ} → after r out' ≡ point_written identifier command «data» out → IsOk r
+  reply-fine r says = not-refused r (ap (λ (a : After). a.tally.refusal) (says ∙ written))
+
+  pub reply-put : {n : ℕ} {out' : List ℕ} → after (Ok n) out' ≡ point_written identifier command «data» out
+      → Fills n out' (point_content identifier command «data») out
+  reply-put says =
+      let put = says ∙ written in (put, omega (arith, content-room, ap (λ (a : After). a.tally.count) put))
 
 -- what was put stands in front
 pub puts-front : {n : ℕ} {out' : List ℕ} (content out : List ℕ) → Fills n out' content out → take n out' ≡ image content

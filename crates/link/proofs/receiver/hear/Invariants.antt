@@ -1,9 +1,14 @@
 -- `receiver::hear`: at each turn, the bytes that are left give, from the receiver so far, what the whole piece gives from the first.
 -- Assumes nothing.
+use Prim.Native.Nat.{◌-◌}
+use lib.ListN.{length}
 use Rattle.link_spec.specs.Receiving.{receiver_of}
 use Rattle.link_spec.proofs.Laws.Receiving.{Going}
 use Rattle.link.proofs.receiver.hear.Given as goal
 
-abbrev pub invariant-loop-i : goal.invariant-loop-i
-invariant-loop-i l =
-    Going l.piece (receiver_of l.station l.initial.phase l.initial.count l.initial.content) l.i (receiver_of l.station l.phase l.count l.content)
+abbrev pub invariant-loop-taken : goal.invariant-loop-taken
+invariant-loop-taken l =
+    Going l.piece (receiver_of l.station l.initial.phase l.initial.count l.initial.content) l.taken (receiver_of l.station l.phase l.count l.content)
+
+abbrev pub decreases-loop-taken : goal.decreases-loop-taken
+decreases-loop-taken l = length l.piece - l.taken

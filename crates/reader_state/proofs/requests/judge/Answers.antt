@@ -7,4 +7,4 @@ use Rattle.reader_state.proofs.requests.judge.Goals as goal
 pub serves-requires : goal.serves-requires
 serves-requires c =
     let a = c.args in
-    fits-command (accepts a.code _ (judged-as (acceptance a.code _) c.accept-acceptance.ensures c.in-Accepted.is))
+    fits-command (accepts a.code _ (judged-as (acceptance a.code _) c.accept.ensures c.in_ok-command.was))

@@ -10,4 +10,4 @@ returns-then-is_bad_reader c = simp (sym c.is_bad_reader.ensures ∙ c.if-is_bad
 
 pub returns : goal.returns
 unfolding powered_on
-returns c = simp (sym c.is_bad_reader.ensures ∙ c.if-is_bad_reader.false, c.after_power-parameters.ensures)
+returns c = simp (sym c.is_bad_reader.ensures ∙ c.if-is_bad_reader.false, c.after_power.ensures)

@@ -1,40 +1,47 @@
--- `event::lay_head`: each part is put after those before it, and there are places for the longest head.
+-- `event::lay_head`: each part is put after those before it, and there are places for the longest head, so none is refused.
 -- Assumes nothing.
-use mathlib.Core.Path.{◌≡◌, ap, ◌∙◌}
-use mathlib.Core.List.{List}
+use mathlib.Core.List.{◌++◌}
 use Prim.Native.Nat.{ℕ, ◌≤◌, zero-le}
 use native.Mathlib.Omega.{arith}
-use lib.ListN.{length, take}
-use Rattle.ground.specs.Laying.{Ended, ended, placed, put}
-use Rattle.ground.proofs.Laws.Laying.{last, then, puts-placed, take-placed}
-use Rattle.link_spec.specs.Events.{named}
+use lib.ListN.{length, length-append}
+use Rattle.std.specs.Prelude.{Some}
+use Rattle.ground.proofs.Laws.Laying.{last, then, puts-some, puts-whole}
+use Rattle.link_spec.specs.Events.{Name, named}
+use Rattle.text.specs.Decimal.{decimal}
+use Rattle.tape_spec.specs.declared.tape.Line.{Line}
+use Rattle.tape_spec.specs.Limits.{most_records}
+use Rattle.tape_spec.specs.Rows.{letter, name_of}
 use Rattle.rows.specs.Heads.{most_head, head_of}
 use Rattle.rows.proofs.Laws.Heads.{head-within}
 use Rattle.rows.proofs.event.lay_head.Goals as goal
-use Rattle.rows.proofs.event.lay_head.Goals.{After-put-named}
 
--- the head that was asked for
-abbrev asked : After-put-named → List ℕ
-asked c = head_of c.args.number c.args.line (named c.args.event)
+-- the number and the letter have room, since the whole head has
+parts-within : (n : ℕ) (line : Line) (event : Name) → n ≤ most_records
+    → (length (decimal n) ≤ most_head) × (length (decimal n ++ letter line) ≤ most_head) × (length (head_of n line event) ≤ most_head)
+parts-within n line event few =
+    let head = head-within n line event few in
+    let d = length-append (decimal n) (letter line ++ name_of event) in
+    let l = length-append (letter line) (name_of event) in
+    (omega (arith, head, d), omega (arith, head, d, l, length-append (decimal n) (letter line)), head)
 
-within : (c : After-put-named) → length (asked c) ≤ most_head
-within c = head-within c.args.number c.args.line (named c.args.event) (omega (arith, c.ranges))
+pub returns-in_err-counted : goal.returns-in_err-counted
+returns-in_err-counted c =
+    let a = c.args in
+    let fits = parts-within a.number a.line (named (Some a.event)) (omega (arith, c.ranges)) in
+    absurd (puts-some c.in_err-counted.field-0.0 (last c.in_err-counted.ensures) zero-le (omega (arith, fits, c.requires)))
 
--- it lies at the front of its places
-lies : (c : After-put-named) → ended c.put-named.result c.put-named.new.out ≡ placed (asked c) c.args.head.now 0
-lies c =
-    puts-placed
-    (then _ _ _ c.put_decimal-counted.ensures
-    (then _ _ _ (c.put-lettered.ensures ∙ ap (λ (w : List ℕ). put w c.put_decimal-counted.new.out c.put_decimal-counted.result.end) c.letter.ensures)
-    (last (c.put-named.ensures ∙ ap (λ (w : List ℕ). put w c.put-lettered.new.out c.put-lettered.result.end) c.name-name.ensures.letters)))) zero-le
-    (omega (arith, c.requires, within c))
+pub returns-in_err-lettered : goal.returns-in_err-lettered
+returns-in_err-lettered c =
+    let a = c.args in
+    let fits = parts-within a.number a.line (named (Some a.event)) (omega (arith, c.ranges)) in
+    absurd (puts-some c.in_err-lettered.field-0.0 (then _ _ _ c.in_ok-counted.ensures (last (rw c.letter.ensures at c.in_err-lettered.ensures))) zero-le
+    (omega (arith, fits, c.requires)))
 
-pub returns-clause-upper_bound : goal.returns-clause-upper_bound
-returns-clause-upper_bound c =
-    let p = (goal.at.returns-clause-upper_bound c).After-put-named in
-    omega (arith, within p, ap (λ (d : Ended). d.end) (lies p))
-
-pub returns-clause-head_after : goal.returns-clause-head_after
-returns-clause-head_after c =
-    let p = (goal.at.returns-clause-head_after c).After-put-named in
-    ap (λ (d : Ended). take d.end d.out) (lies p) ∙ take-placed (asked p) c.args.head.now
+pub returns : goal.returns
+returns c =
+    let a = c.args in
+    let fits = parts-within a.number a.line (named (Some a.event)) (omega (arith, c.ranges)) in
+    puts-whole c.in_ok-lettered.lettered c.put-2.result c.put-2.new.out
+    (then _ _ _ c.in_ok-counted.ensures
+    (then _ _ _ (rw c.letter.ensures at c.in_ok-lettered.ensures)
+    (last (rw c.name.ensures at c.put-2.ensures)))) zero-le (omega (arith, fits, c.requires))

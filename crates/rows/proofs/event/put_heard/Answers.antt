@@ -1,61 +1,63 @@
--- `event::put_heard`: no event has no row, FRAME shows the content that it carries, which lies within the array that came with it, and every
--- other event shows none.
+-- `event::put_heard`: no event has no row, FRAME shows the content that it carries, and every other event shows none.
 -- Assumes nothing.
-use mathlib.Core.Path.{◌≡◌, refl, sym, ap, ◌∙◌}
+use mathlib.Core.Path.{◌≡◌, refl, sym, ap, subst⁻¹, ◌∙◌}
 use mathlib.Core.Logic.{◌≢◌}
 use mathlib.Core.List.{List, []}
 use Prim.Native.Nat.{ℕ, zero-le}
 use native.Mathlib.Omega.{arith}
-use lib.ListN.{length}
+use lib.ListN.{length, take}
+use Rattle.std.specs.Prelude.{Option, Some}
+use Rattle.std.proofs.lemmas.List.{take_min}
 use Rattle.ground.specs.Laying.{put}
 use Rattle.ground.proofs.Laws.Laying.{put-placed, placed-nil}
-use Rattle.wire_spec.specs.Limits.{most_content}
 use Rattle.link_spec.specs.declared.event.Event.{Event}
-use Rattle.link_spec.specs.declared.event.Event.TheVariants.{None, Frame, Check, Short, Long, Pair, Addr}
-use Rattle.link_spec.specs.Events.{named, happened}
-use Rattle.link_spec.specs.Receiving.{saying}
+use Rattle.link_spec.specs.declared.event.Event.TheVariants.{Frame, Check, Short, Long, Pair, Addr}
+use Rattle.link_spec.specs.declared.event.Verdict.{Verdict}
+use Rattle.link_spec.specs.Events.{named, event_told, length_told}
 use Rattle.tape_spec.specs.declared.tape.Line.{Line}
-use Rattle.tape_spec.specs.Rows.{row, name_of, event_row, carried}
-use Rattle.tape_spec.proofs.Laws.Rows.{no_row, frame_row}
+use Rattle.tape_spec.specs.Rows.{row, name_of, event_row}
+use Rattle.tape_spec.proofs.Laws.Rows.{frame_row}
 use Rattle.rows.proofs.event.put_heard.Goals as goal
+use Rattle.rows.proofs.event.put_heard.Goals.{in-Frame, in_default-event}
 
--- an event that is neither of the two that have arms of their own
-others : (n : ℕ) (line : Line) (e : Event) (content : List ℕ) → e ≢ None → e ≢ Frame
-    → row n line (name_of (named e)) [] ≡ event_row n line (named e) content
+-- an event that is no FRAME
+others : (n : ℕ) (line : Line) (e : Event) (content : List ℕ) → e ≢ Frame
+    → row n line (name_of (named (Some e))) [] ≡ event_row n line (named (Some e)) content
 unfolding name_of event_row
-others n line None content quiet frame = absurd (quiet refl)
-others n line Frame content quiet frame = absurd (frame refl)
-others n line Check content quiet frame = refl
-others n line Short content quiet frame = refl
-others n line Long content quiet frame = refl
-others n line Pair content quiet frame = refl
-others n line Addr content quiet frame = refl
+others n line Frame content other = absurd (other refl)
+others n line Check content other = refl
+others n line Short content other = refl
+others n line Long content other = refl
+others n line Pair content other = refl
+others n line Addr content other = refl
 
-pub returns-in-None : goal.returns-in-None
-returns-in-None c =
-    let a = c.args in
-    let quiet = ap (λ (e : Event). happened (named e)) c.in-None.is in
-    sym (placed-nil a.out.now a.at)
-    ∙ sym (put-placed [] a.out.now a.at zero-le)
-    ∙ ap (λ (l : List ℕ). put l a.out.now a.at) (sym (no_row a.number a.line (saying a.heard) quiet))
-
-pub returns-in-Frame : goal.returns-in-Frame
-returns-in-Frame c =
-    let a = c.args in
-    let content = carried (saying a.heard) in
-    let frame = c.in-Frame.is in
-    -- the array that came with an event holds the longest content
-    let whole : length a.heard.content ≡ most_content = omega arith in
-    c.put_row.ensures
-    ∙ ap (λ (l : List ℕ). put l a.out.now a.at)
-    (ap (row a.number a.line (name_of (named a.heard.event))) (c.shown-length.ensures.same a.heard.content whole)
-    ∙ ap (λ (c : Event). row a.number a.line (name_of (named c)) content) frame
-    ∙ frame_row a.number a.line content
-    ∙ ap (λ (c : Event). event_row a.number a.line (named c) content) (sym frame))
+frame : (n : ℕ) (line : Line) (e : Event) (content : List ℕ) → e ≡ Frame
+    → row n line (name_of (named (Some e))) content ≡ event_row n line (named (Some e)) content
+frame n line e content is =
+    subst⁻¹ (λ (x : Event). row n line (name_of (named (Some x))) content ≡ event_row n line (named (Some x)) content) is (frame_row n line content)
 
 pub returns-in_default : goal.returns-in_default
+unfolding event_row
 returns-in_default c =
     let a = c.args in
-    c.put_row-in_default.ensures
+    sym (placed-nil a.out.now a.at)
+    ∙ sym (put-placed [] a.out.now a.at zero-le)
+    ∙ ap (λ (t : Option Verdict). put (event_row a.number a.line (named (event_told t)) (take (length_told t) a.heard.content)) a.out.now a.at) (sym c.in_default.is)
+
+pub returns : goal.returns
+returns c =
+    let a = c.args in
+    let v = c.in-Some.told in
+    -- the array that comes with an event
+    let whole : length a.heard.content ≡ 64 = omega arith in
+    c.put_row.ensures
     ∙ ap (λ (l : List ℕ). put l a.out.now a.at)
-    (others a.number a.line a.heard.event (carried (saying a.heard)) c.in_default.not-None c.in_default.not-Frame)
+    (elim c.match-told.branch [
+      | in-Frame w ↦
+          ap (λ (m : ℕ). row a.number a.line (name_of (named (Some v.event))) (take m a.heard.content)) (w.shown-is ∙ w.min-shown.ensures)
+          ∙ ap (row a.number a.line (name_of (named (Some v.event)))) (rw whole at (take_min v.length a.heard.content))
+          ∙ frame a.number a.line v.event (take v.length a.heard.content) w.in-Frame.is
+      | in_default-event w ↦
+          ap (λ (m : ℕ). row a.number a.line (name_of (named (Some v.event))) (take m a.heard.content)) w.shown-is
+          ∙ others a.number a.line v.event (take v.length a.heard.content) w.in_default-event.not-Frame
+    ] ∙ ap (λ (t : Option Verdict). event_row a.number a.line (named (event_told t)) (take (length_told t) a.heard.content)) (sym c.in-Some.is))
