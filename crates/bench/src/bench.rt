@@ -13,13 +13,6 @@ pub(crate) struct Bench {
     device: Device,
 }
 
-// After a record: what lives on, and the record's row.
-#[derive(Clone, Copy)]
-pub(crate) struct Done {
-    pub(crate) bench: Bench,
-    pub(crate) row: Row,
-}
-
 impl Bench {
     pub(crate) fn fresh() -> Bench {
         Bench {
@@ -29,26 +22,13 @@ impl Bench {
     }
 
     // Does what the op asks for with this payload, and puts its fields.
-    pub(crate) fn perform(mut self, op: Op, payload: &[u8], row: Row) -> Done {
-        let row = match op {
+    pub(crate) fn perform(&mut self, op: Op, payload: &[u8], row: Row) -> Row {
+        match op {
             Op::Write(writer) => put_written(writer, payload, row),
             Op::Value(value) => put_value(value, payload, row),
             Op::Reading => put_reading(payload, row),
-            Op::Receiver(op) => {
-                let receivers = self.receivers;
-                let listened = receivers.perform(op, payload, row);
-                let receivers = listened.receivers;
-                self.receivers = receivers;
-                listened.row
-            }
-            Op::Reader(op) => {
-                let device = self.device;
-                let served = device.perform(op, payload, row);
-                let device = served.device;
-                self.device = device;
-                served.row
-            }
-        };
-        Done { bench: self, row }
+            Op::Receiver(op) => self.receivers.perform(op, payload, row),
+            Op::Reader(op) => self.device.perform(op, payload, row),
+        }
     }
 }

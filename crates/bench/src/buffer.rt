@@ -8,17 +8,11 @@ pub(crate) const UNTOUCHED: u8 = 0xEE;
 
 // The first `length` bytes, or all where there are fewer.
 pub(crate) fn front(bytes: &[u8], length: usize) -> &[u8] {
-    if length > bytes.len() {
-        return bytes;
-    }
-    // The prover knows the length of a part that names its start.
-    &bytes[0..length]
+    &bytes[..length.min(bytes.len())]
 }
 
 // The same, to be written to.
 pub(crate) fn front_mut(bytes: &mut [u8], length: usize) -> &mut [u8] {
-    if length > bytes.len() {
-        return bytes;
-    }
-    &mut bytes[0..length]
+    let length = length.min(bytes.len());
+    &mut bytes[..length]
 }

@@ -17,7 +17,7 @@ mod writers;
 use bench::Bench;
 use buffer::front;
 use row::Row;
-use script::{Ending, Next, read_record};
+use script::{Ending, read_record};
 use std::process::ExitCode;
 use terminal::fail;
 
@@ -36,21 +36,16 @@ fn main(rt: HostRuntime) -> ExitCode {
 // Does the records of the script, with `space` for a payload, and writes their rows; whether all was read and written.
 fn run(rt: &HostRuntime, space: &mut [u8]) -> bool {
     let mut bench = Bench::fresh();
-    let mut records: usize = 0;
     // A proved loop has to end; no script has as many records.
-    while records < usize::MAX {
-        let next = read_record(rt, space);
-        match next {
-            Next::Record(op, code, length) => {
-                let done = bench.perform(op, front(space, length), Row::of_op(code));
-                bench = done.bench;
-                if !done.row.print(rt) {
-                    return false;
-                }
-            }
-            Next::None(ending) => return write_last(rt, ending, records),
+    for records in 0..usize::MAX {
+        let record = match read_record(rt, space) {
+            Ok(record) => record,
+            Err(ending) => return write_last(rt, ending, records),
+        };
+        let payload = front(space, record.length);
+        if !bench.perform(record.op, payload, Row::of_op(record.code)).print(rt) {
+            return false;
         }
-        records += 1;
     }
     false
 }

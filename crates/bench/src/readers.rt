@@ -2,11 +2,10 @@
 ghost use Rattle.std.specs.Prelude.{◌≤◌, length};
 
 use crate::buffer::{MOST_ROOM, UNTOUCHED, front, front_mut};
-use crate::number::{number_at, one_byte};
+use crate::number::number;
 use crate::row::Row;
-use ground::put;
 use link::Event;
-use reader::{Answer, Buffer, Memory, Parameters, Reader, fresh_reader, to_send};
+use reader::{Answer, Buffer, Last, Parameters, Reader, fresh_reader, to_send};
 use request::{CELL_LENGTH, HEADER_LENGTH, SETTINGS_LENGTH, header};
 
 // A reader with its device header and its two buffers.
@@ -29,20 +28,6 @@ pub(crate) enum ReaderOp {
     SetHeader,
 }
 
-// After such a record: the device, and the record's row.
-#[derive(Clone, Copy)]
-pub(crate) struct Served {
-    pub(crate) device: Device,
-    pub(crate) row: Row,
-}
-
-// How many bytes of each buffer's front are lent.
-#[derive(Clone, Copy)]
-struct Rooms {
-    store: usize,
-    out: usize,
-}
-
 impl Device {
     pub(crate) fn fresh() -> Device {
         Device {
@@ -53,123 +38,79 @@ impl Device {
         }
     }
 
-    pub(crate) fn perform(self, op: ReaderOp, payload: &[u8], row: Row) -> Served {
+    // Does what the op asks for with this payload, and puts its fields. A payload that is shorter than its fixed part changes nothing.
+    pub(crate) fn perform(&mut self, op: ReaderOp, payload: &[u8], row: Row) -> Row {
         match op {
             ReaderOp::Answer => self.answer(payload, row),
             ReaderOp::PowerOn => self.power_on(row),
-            ReaderOp::Buffers => self.put_buffers(row),
+            ReaderOp::Buffers => row.bytes(&self.out).bytes(&self.store),
             ReaderOp::SetReader => self.set_reader(payload, row),
             ReaderOp::NewReader => self.new_reader(payload, row),
             ReaderOp::SetHeader => self.set_header(payload, row),
         }
     }
 
-    // After a record that left this device and wrote this row.
-    fn done(self, row: Row) -> Served {
-        Served { device: self, row }
-    }
-
-    // A payload that is shorter than its fixed part changes nothing.
-    fn short(self, row: Row) -> Served {
-        self.done(row.short())
-    }
-
     // Payload: event, antenna count, store room, out room, antenna, content.
-    fn answer(self, payload: &[u8], row: Row) -> Served {
-        if payload.len() < 6 {
-            return self.short(row);
-        }
-        let count = one_byte(payload[1]);
-        let rest = &payload[6..];
-        if rest.len() < count {
-            return self.short(row);
-        }
-        let rooms = Rooms {
-            store: number_at(payload, 2),
-            out: number_at(payload, 4),
+    fn answer(&mut self, payload: &[u8], row: Row) -> Row {
+        let [event, count, s0, s1, o0, o1, rest @ ..] = payload else {
+            return row.short();
         };
-        let antenna = front(rest, count);
-        let content = &rest[count..];
-        self.answer_event(event(payload[0]), content, antenna, rooms, row)
-    }
-
-    fn answer_event(
-        mut self,
-        event: Event,
-        content: &[u8],
-        antenna: &[u8],
-        rooms: Rooms,
-        row: Row,
-    ) -> Served {
-        let reader = self.reader;
-        let mut store = self.store;
-        let mut out = self.out;
-        let lent_store = front_mut(&mut store, rooms.store);
-        let lent_out = front_mut(&mut out, rooms.out);
-        let header = self.header;
-        let answer = reader::answer(
-            reader, event, content, header, antenna, lent_store, lent_out,
+        let Some((antenna, content)) = rest.split_at_checked(usize::from(*count)) else {
+            return row.short();
+        };
+        let store_room = number([*s0, *s1]);
+        let out_room = number([*o0, *o1]);
+        let store = front_mut(&mut self.store, store_room);
+        let out = front_mut(&mut self.out, out_room);
+        let answered = reader::answer(
+            self.reader, event_of(*event), content, self.header, antenna, store, out,
         );
-        let reader = answer.reader;
-        self.reader = reader;
-        self.store = store;
-        self.out = out;
-        let store_front = front(&store, rooms.store);
-        let out_front = front(&out, rooms.out);
-        let row = put_answer(answer, store_front, out_front, row);
-        self.done(put_reader(reader, row))
+        let row = row.refusal(answered.err());
+        // Refused, the reader is as it was and sends nothing.
+        let answer = answered.unwrap_or(Answer {
+            reader: self.reader,
+            buffer: Buffer::Out,
+            length: 0,
+        });
+        self.reader = answer.reader;
+        put_reader(self.reader, put_answer(answer, store, out, row))
     }
 
-    fn power_on(mut self, row: Row) -> Served {
-        let reader = self.reader;
-        let powered = reader::power_on(reader);
-        let refusal = powered.refusal;
-        let reader = powered.reader;
-        self.reader = reader;
-        self.done(put_reader(reader, row.refusal(refusal)))
-    }
-
-    fn put_buffers(self, row: Row) -> Served {
-        let out = self.out;
-        let store = self.store;
-        self.done(row.bytes(&out).bytes(&store))
+    fn power_on(&mut self, row: Row) -> Row {
+        let powered = reader::power_on(self.reader);
+        self.reader = powered.unwrap_or(self.reader);
+        put_reader(self.reader, row.refusal(powered.err()))
     }
 
     // Payload: speed, parameter 05, parameter 80, has, identifier, command, length, fast. Puts no field.
-    fn set_reader(mut self, payload: &[u8], row: Row) -> Served {
+    fn set_reader(&mut self, payload: &[u8], row: Row) -> Row {
         if payload.len() < 19 {
-            return self.short(row);
+            return row.short();
         }
-        let parameters = parameters(payload);
-        let memory = memory(payload);
-        let reader = Reader {
-            parameters,
+        self.reader = Reader {
+            parameters: parameters(payload),
             fast: payload[18] != 0,
-            memory,
+            memory: memory(payload),
         };
-        self.reader = reader;
-        self.done(row)
+        row
     }
 
     // Payload: fast.
-    fn new_reader(mut self, payload: &[u8], row: Row) -> Served {
-        if payload.len() < 1 {
-            return self.short(row);
-        }
-        let reader = fresh_reader(payload[0] != 0);
-        self.reader = reader;
-        self.done(put_reader(reader, row))
+    fn new_reader(&mut self, payload: &[u8], row: Row) -> Row {
+        let [fast, ..] = payload else {
+            return row.short();
+        };
+        self.reader = fresh_reader(*fast != 0);
+        put_reader(self.reader, row)
     }
 
     // Payload: header. Puts no field.
-    fn set_header(mut self, payload: &[u8], row: Row) -> Served {
+    fn set_header(&mut self, payload: &[u8], row: Row) -> Row {
         if payload.len() < HEADER_LENGTH {
-            return self.short(row);
+            return row.short();
         }
-        let mut header = self.header;
-        put(&payload[0..HEADER_LENGTH], &mut header, 0);
-        self.header = header;
-        self.done(row)
+        self.header.copy_from_slice(&payload[..HEADER_LENGTH]);
+        row
     }
 }
 
@@ -181,70 +122,51 @@ fn first_header() -> [u8; HEADER_LENGTH] {
     )
 }
 
-fn event(byte: u8) -> Event {
+fn event_of(byte: u8) -> Option<Event> {
     match byte {
-        1 => Event::Frame,
-        2 => Event::Check,
-        3 => Event::Short,
-        4 => Event::Long,
-        5 => Event::Pair,
-        6 => Event::Addr,
-        _ => Event::None,
+        1 => Some(Event::Frame),
+        2 => Some(Event::Check),
+        3 => Some(Event::Short),
+        4 => Some(Event::Long),
+        5 => Some(Event::Pair),
+        6 => Some(Event::Addr),
+        _ => None,
     }
 }
 
-fn put_answer<'a>(answer: Answer, store: &'a [u8], out: &'a [u8], row: Row) -> Row {
-    let refusal = answer.refusal;
-    let buffer = answer.buffer;
-    let length = answer.length;
-    put_buffer(buffer, row.refusal(refusal))
-        .number(length)
-        .bytes(to_send(buffer, length, store, out))
-}
-
-fn put_buffer(buffer: Buffer, row: Row) -> Row {
-    match buffer {
-        Buffer::Out => row.word(b"out"),
-        Buffer::Store => row.word(b"store"),
-    }
+fn put_answer(answer: Answer, store: &[u8], out: &[u8], row: Row) -> Row {
+    let buffer: &[u8] = match answer.buffer {
+        Buffer::Out => b"out",
+        Buffer::Store => b"store",
+    };
+    row.word(buffer)
+        .number(answer.length)
+        .bytes(to_send(answer.buffer, answer.length, store, out))
 }
 
 // The reader's state: the parameters, the last executed command with its length, and whether it is fast.
 fn put_reader(reader: Reader, row: Row) -> Row {
     let parameters = reader.parameters;
-    let memory = reader.memory;
-    let row = put_memory(memory, put_parameters(parameters, row));
-    if reader.fast {
-        row.word(b"fast")
-    } else {
-        row.word(b"slow")
-    }
-}
-
-fn put_parameters(parameters: Parameters, row: Row) -> Row {
-    let settings = parameters.settings;
-    let cell = parameters.cell;
-    row.bytes(&[parameters.speed]).bytes(&settings).bytes(&cell)
-}
-
-fn put_memory(memory: Memory, row: Row) -> Row {
-    match memory {
-        Memory::None => row.word(b"- -"),
-        Memory::Last {
-            identifier,
-            command,
-            length,
-        } => row.bytes(&[identifier, command]).number(length),
-    }
+    let row = row
+        .bytes(&[parameters.speed])
+        .bytes(&parameters.settings)
+        .bytes(&parameters.cell);
+    let row = match reader.memory {
+        None => row.word(b"- -"),
+        Some(last) => row
+            .bytes(&[last.identifier, last.command])
+            .number(last.length),
+    };
+    row.word(if reader.fast { b"fast" } else { b"slow" })
 }
 
 fn parameters(payload: &[u8]) -> Parameters
     requires { 18 ≤ length payload.now }
 {
     let mut settings = [0u8; SETTINGS_LENGTH];
-    put(&payload[1..5], &mut settings, 0);
+    settings.copy_from_slice(&payload[1..5]);
     let mut cell = [0u8; CELL_LENGTH];
-    put(&payload[5..13], &mut cell, 0);
+    cell.copy_from_slice(&payload[5..13]);
     Parameters {
         speed: payload[0],
         settings,
@@ -252,15 +174,15 @@ fn parameters(payload: &[u8]) -> Parameters
     }
 }
 
-fn memory(payload: &[u8]) -> Memory
+fn memory(payload: &[u8]) -> Option<Last>
     requires { 18 ≤ length payload.now }
 {
     if payload[13] == 0 {
-        return Memory::None;
+        return None;
     }
-    Memory::Last {
+    Some(Last {
         identifier: payload[14],
         command: payload[15],
-        length: number_at(payload, 16),
-    }
+        length: number([payload[16], payload[17]]),
+    })
 }

@@ -1,10 +1,7 @@
 // The receivers of the two lines.
-ghost use Rattle.std.specs.Prelude.{◌≤◌, length};
-
 use crate::buffer::front;
-use crate::number::number_at;
+use crate::number::number;
 use crate::row::Row;
-use ground::number;
 use link::{Event, Heard, MASTER, Phase, Receiver, Station, fresh_addressed, fresh_point, receive};
 use wire::MOST_CONTENT;
 
@@ -28,23 +25,16 @@ pub(crate) enum ReceiverOp {
     SetReceiver,
 }
 
-// After such a record: the receivers, and the record's row.
-#[derive(Clone, Copy)]
-pub(crate) struct Listened {
-    pub(crate) receivers: Receivers,
-    pub(crate) row: Row,
-}
-
 impl Receivers {
     pub(crate) fn fresh() -> Receivers {
-        let addressed = fresh_addressed(MASTER).receiver;
         Receivers {
             point: fresh_point(),
-            addressed,
+            addressed: fresh_addressed(MASTER).unwrap(),
         }
     }
 
-    pub(crate) fn perform(self, op: ReceiverOp, payload: &[u8], row: Row) -> Listened {
+    // Does what the op asks for with this payload, and puts its fields. A payload that is shorter than its fixed part changes nothing.
+    pub(crate) fn perform(&mut self, op: ReceiverOp, payload: &[u8], row: Row) -> Row {
         match op {
             ReceiverOp::Hear(line) => self.hear(line, payload, row),
             ReceiverOp::NewStation => self.new_station(payload, row),
@@ -52,108 +42,75 @@ impl Receivers {
         }
     }
 
-    // After a record that left these receivers and wrote this row.
-    fn done(self, row: Row) -> Listened {
-        Listened {
-            receivers: self,
-            row,
-        }
-    }
-
-    fn on(self, line: Line) -> Receiver {
+    fn on(&mut self, line: Line) -> &mut Receiver {
         match line {
-            Line::Point => self.point,
-            Line::Addressed => self.addressed,
+            Line::Point => &mut self.point,
+            Line::Addressed => &mut self.addressed,
         }
     }
 
-    // With another receiver on a line.
-    fn with(mut self, line: Line, receiver: Receiver) -> Receivers {
-        match line {
-            Line::Point => self.point = receiver,
-            Line::Addressed => self.addressed = receiver,
+    fn hear(&mut self, line: Line, piece: &[u8], row: Row) -> Row {
+        let receiver = self.on(line);
+        match receive(*receiver, piece) {
+            Ok(heard) => {
+                *receiver = heard.receiver;
+                put_heard(heard, row.refusal(None))
+            }
+            Err(why) => row.refusal(Some(why)).word(b"NONE").number(0).bytes(&[]),
         }
-        self
-    }
-
-    fn hear(self, line: Line, piece: &[u8], row: Row) -> Listened {
-        let heard = receive(self.on(line), piece);
-        let receiver = heard.receiver;
-        self.with(line, receiver).done(put_heard(heard, row))
     }
 
     // Payload: address. Where it is refused the receiver stays.
-    fn new_station(self, payload: &[u8], row: Row) -> Listened {
-        if payload.len() < 1 {
-            return self.done(row.short());
-        }
-        let fresh = fresh_addressed(payload[0]);
-        let refusal = fresh.refusal;
-        let row = row.refusal(refusal);
-        if number(refusal) != 0 {
-            return self.done(row);
-        }
-        let receiver = fresh.receiver;
-        self.with(Line::Addressed, receiver).done(row)
+    fn new_station(&mut self, payload: &[u8], row: Row) -> Row {
+        let [address, ..] = payload else {
+            return row.short();
+        };
+        let fresh = fresh_addressed(*address);
+        self.addressed = fresh.unwrap_or(self.addressed);
+        row.refusal(fresh.err())
     }
 
     // Payload: line, address, phase, count, fill. Puts no field.
-    fn set(self, payload: &[u8], row: Row) -> Listened {
-        if payload.len() < 6 {
-            return self.done(row.short());
-        }
-        self.with(line_of(payload[0]), receiver(payload)).done(row)
+    fn set(&mut self, payload: &[u8], row: Row) -> Row {
+        let [line, address, phase, low, high, fill, ..] = payload else {
+            return row.short();
+        };
+        let (line, station) = match line {
+            0 => (Line::Point, Station::Point),
+            _ => (Line::Addressed, Station::Addressed(*address)),
+        };
+        *self.on(line) = Receiver {
+            station,
+            phase: phase_of(*phase),
+            count: number([*low, *high]),
+            content: [*fill; MOST_CONTENT],
+        };
+        row
     }
 }
 
 fn put_heard(heard: Heard, row: Row) -> Row {
-    let refusal = heard.refusal;
-    let event = heard.event;
-    let content = heard.content;
-    let length = heard.length;
-    put_event(event, row.refusal(refusal))
+    let (name, length) = match heard.told {
+        Some(verdict) => (name(verdict.event), verdict.length),
+        None => (&b"NONE"[..], 0),
+    };
+    row.word(name)
         .number(heard.taken)
-        .bytes(front(&content, length))
+        .bytes(front(&heard.content, length))
 }
 
-fn put_event(event: Event, row: Row) -> Row {
+fn name(event: Event) -> &'static [u8] {
     match event {
-        Event::None => row.word(b"NONE"),
-        Event::Frame => row.word(b"FRAME"),
-        Event::Check => row.word(b"CHECK"),
-        Event::Short => row.word(b"SHORT"),
-        Event::Long => row.word(b"LONG"),
-        Event::Pair => row.word(b"PAIR"),
-        Event::Addr => row.word(b"ADDR"),
+        Event::Frame => b"FRAME",
+        Event::Check => b"CHECK",
+        Event::Short => b"SHORT",
+        Event::Long => b"LONG",
+        Event::Pair => b"PAIR",
+        Event::Addr => b"ADDR",
     }
 }
 
-fn line_of(byte: u8) -> Line {
-    match byte {
-        0 => Line::Point,
-        _ => Line::Addressed,
-    }
-}
-
-fn receiver(payload: &[u8]) -> Receiver
-    requires { 6 ≤ length payload.now }
-{
-    Receiver {
-        station: station(payload[0], payload[1]),
-        phase: phase(payload[2]),
-        count: number_at(payload, 3),
-        content: [payload[5]; MOST_CONTENT],
-    }
-}
-
-fn station(line: u8, address: u8) -> Station {
-    match line {
-        0 => Station::Point,
-        _ => Station::Addressed(address),
-    }
-}
-
-fn phase(byte: u8) -> Phase {
+fn phase_of(byte: u8) -> Phase {
     match byte {
         0 => Phase::Outside,
         1 => Phase::Inside,

@@ -1,6 +1,6 @@
 // The row that a record writes.
 use crate::buffer::{MOST_ROOM, front};
-use ground::{Counted, Refusal, number, put};
+use ground::{Refusal, number, put};
 use std::io::Write;
 use terminal::fail;
 use text::{put_decimal, put_pairs};
@@ -30,25 +30,22 @@ impl Row {
         Row::empty().with_pairs(&[code])
     }
 
-    // With these letters more.
-    pub(crate) fn with(self, more: &[u8]) -> Row {
-        let mut letters = self.letters;
-        let length = put(more, &mut letters, self.length).end;
-        Row { letters, length }
+    // With these letters more. What has no room is left out.
+    pub(crate) fn with(mut self, more: &[u8]) -> Row {
+        self.length = put(more, &mut self.letters, self.length).unwrap_or(self.length);
+        self
     }
 
     // With these bytes more, as hex pairs.
-    pub(crate) fn with_pairs(self, bytes: &[u8]) -> Row {
-        let mut letters = self.letters;
-        let length = put_pairs(bytes, &mut letters, self.length).end;
-        Row { letters, length }
+    fn with_pairs(mut self, bytes: &[u8]) -> Row {
+        self.length = put_pairs(bytes, &mut self.letters, self.length).unwrap_or(self.length);
+        self
     }
 
     // With a number more.
-    fn with_decimal(self, n: u64) -> Row {
-        let mut letters = self.letters;
-        let length = put_decimal(n, &mut letters, self.length).end;
-        Row { letters, length }
+    fn with_decimal(mut self, n: u64) -> Row {
+        self.length = put_decimal(n, &mut self.letters, self.length).unwrap_or(self.length);
+        self
     }
 
     // With a field more.
@@ -64,15 +61,20 @@ impl Row {
         self.with(b" ").with_pairs(bytes)
     }
 
-    // The number of a refusal; 0 for none.
-    pub(crate) fn refusal(self, refusal: Refusal) -> Row {
-        self.number(number(refusal) as usize)
+    // A number in two bytes, as four hex digits.
+    pub(crate) fn register(self, value: u16) -> Row {
+        let [high, low] = value.to_be_bytes();
+        self.bytes(&[high]).with_pairs(&[low])
     }
 
-    // What a call counted.
-    pub(crate) fn counted(self, counted: Counted) -> Row {
-        let refusal = counted.refusal;
-        self.refusal(refusal).number(counted.count)
+    // The number of a refusal; 0 for none.
+    pub(crate) fn refusal(self, refusal: Option<Refusal>) -> Row {
+        self.number(usize::from(number(refusal)))
+    }
+
+    // What a call counted; 0 where it refused.
+    pub(crate) fn counted(self, counted: Result<usize, Refusal>) -> Row {
+        self.refusal(counted.err()).number(counted.unwrap_or(0))
     }
 
     // A payload is shorter than its fixed part.
@@ -83,8 +85,7 @@ impl Row {
     // Ends the row and writes it; whether that went well.
     pub(crate) fn print(self, rt: &HostRuntime) -> bool {
         let row = self.with(b"\n");
-        let letters = row.letters;
-        match rt.stdout().write_all(front(&letters, row.length)) {
+        match rt.stdout().write_all(front(&row.letters, row.length)) {
             Ok(()) => true,
             Err(error) => {
                 fail(rt, "bench: standard output", error);

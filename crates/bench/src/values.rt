@@ -13,18 +13,8 @@ pub(crate) enum Value {
 pub(crate) fn put_value(value: Value, bytes: &[u8], row: Row) -> Row {
     match value {
         Value::ImageLength => row.counted(image_length(bytes)),
-        Value::Fcs => put_fcs(bytes, row),
+        // The FCS of the bytes, and the register not inverted.
+        Value::Fcs => row.register(fcs(bytes)).register(residue(bytes)),
         Value::Sum => row.bytes(&[sum(bytes)]),
     }
-}
-
-// The FCS of the bytes, and the register not inverted.
-fn put_fcs(bytes: &[u8], row: Row) -> Row {
-    put_register(residue(bytes), put_register(fcs(bytes), row))
-}
-
-// Four hex digits.
-fn put_register(value: u16, row: Row) -> Row {
-    row.bytes(&[(value / 256) as u8])
-        .with_pairs(&[(value % 256) as u8])
 }

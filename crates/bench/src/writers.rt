@@ -1,8 +1,8 @@
 // The writers of frames and of typed requests. A writer's buffer is fresh for each record, and the payload begins with its room.
 use crate::buffer::{MOST_ROOM, UNTOUCHED, front_mut};
-use crate::number::number_at;
+use crate::number::number;
 use crate::row::Row;
-use ground::Counted;
+use ground::Refusal;
 use link::{write_addressed, write_point};
 use request::write_request;
 
@@ -13,60 +13,33 @@ pub(crate) enum Writer {
     Request,
 }
 
-// What a writer answered, unless the payload is shorter than its fixed part.
-#[derive(Clone, Copy)]
-enum Tried {
-    Short,
-    Written(Counted),
-}
-
 // Puts what the writer answered, and the buffer that it was lent.
 pub(crate) fn put_written(writer: Writer, payload: &[u8], row: Row) -> Row {
+    let [low, high, payload @ ..] = payload else {
+        return row.short();
+    };
     let mut buffer = [UNTOUCHED; MOST_ROOM];
-    let lent = front_mut(&mut buffer, room(payload));
-    let tried = write(writer, payload, lent);
-    match tried {
-        Tried::Short => row.short(),
-        Tried::Written(counted) => row.counted(counted).bytes(lent),
+    let lent = front_mut(&mut buffer, number([*low, *high]));
+    match write(writer, payload, lent) {
+        None => row.short(),
+        Some(written) => row.counted(written).bytes(lent),
     }
 }
 
-// The room that a payload begins with; none where it has no such number.
-fn room(payload: &[u8]) -> usize {
-    if payload.len() < 2 {
-        return 0;
-    }
-    number_at(payload, 0)
-}
-
-fn write(writer: Writer, payload: &[u8], out: &mut [u8]) -> Tried {
-    match writer {
-        Writer::Point => point(payload, out),
-        Writer::Addressed => addressed(payload, out),
-        Writer::Request => request(payload, out),
-    }
-}
-
-// Payload: room, identifier, command, data.
-fn point(payload: &[u8], out: &mut [u8]) -> Tried {
-    if payload.len() < 4 {
-        return Tried::Short;
-    }
-    Tried::Written(write_point(payload[2], payload[3], &payload[4..], out))
-}
-
-// Payload: room, address, identifier, command, data.
-fn addressed(payload: &[u8], out: &mut [u8]) -> Tried {
-    if payload.len() < 5 {
-        return Tried::Short;
-    }
-    Tried::Written(write_addressed(payload[2], payload[3], payload[4], &payload[5..], out))
-}
-
-// Payload: room, identifier, code, data.
-fn request(payload: &[u8], out: &mut [u8]) -> Tried {
-    if payload.len() < 4 {
-        return Tried::Short;
-    }
-    Tried::Written(write_request(payload[2], payload[3], &payload[4..], out))
+// What the writer answered, unless the payload is shorter than its fixed part: identifier, command or code, and data; before them the address
+// on the addressed line.
+fn write(writer: Writer, payload: &[u8], out: &mut [u8]) -> Option<Result<usize, Refusal>> {
+    let written = match (writer, payload) {
+        (Writer::Point, [identifier, command, data @ ..]) => {
+            write_point(*identifier, *command, data, out)
+        }
+        (Writer::Addressed, [address, identifier, command, data @ ..]) => {
+            write_addressed(*address, *identifier, *command, data, out)
+        }
+        (Writer::Request, [identifier, code, data @ ..]) => {
+            write_request(*identifier, *code, data, out)
+        }
+        _ => return None,
+    };
+    Some(written)
 }

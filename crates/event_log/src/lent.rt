@@ -21,7 +21,12 @@ pub fn append(log: &mut Log, body: [u8; BODY_LENGTH]) -> Result<(), Refusal>
 // Answers what a receiver of the addressed line heard: an event with its content, the check cut off. So many bytes at the front of `out` are to be
 // sent; none to an event other than FRAME. Refuses a bad log (BadState), `out` under 130 bytes (NoRoom), and a FRAME with fewer than 3 or more than
 // 63 bytes of content (BadRequest), in this order; a refusal leaves the log and `out` as they were.
-pub fn answer(log: &mut Log, event: Option<Event>, content: &[u8], out: &mut [u8]) -> Result<usize, Refusal>
+pub fn answer(
+    log: &mut Log,
+    event: Option<Event>,
+    content: &[u8],
+    out: &mut [u8],
+) -> Result<usize, Refusal>
     ensures { Answers log.old (input_of (named event) content.now) out.old result log.new out.new }
 {
     let answered = answered(*log, event, content, out)?;

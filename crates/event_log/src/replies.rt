@@ -17,7 +17,12 @@ use request_spec::{ACK, SIGN};
 // Answers what a receiver heard: an event with its content, the check cut off. Only a FRAME has an answer. Refuses a bad log (BadState), `out`
 // under 130 bytes (NoRoom), and a FRAME with fewer than 3 or more than 63 bytes of content (BadRequest), in this order.
 #[tactic(auto, unfolding(event_log_spec::specs::Answering::answered_to))]
-pub(crate) fn answered(log: Log, event: Option<Event>, content: &[u8], out: &mut [u8]) -> Result<Answered, Refusal>
+pub(crate) fn answered(
+    log: Log,
+    event: Option<Event>,
+    content: &[u8],
+    out: &mut [u8],
+) -> Result<Answered, Refusal>
     ensures { answered_as log result out.new ≡ answered_to log (input_of (named event) content.now) out.old }
 {
     if is_bad(&log) {
@@ -51,13 +56,25 @@ fn answer_frame(log: Log, content: &[u8], out: &mut [u8]) -> Result<Answered, Re
 }
 
 // Writes the reply to the front of `out`, to the master's address.
-fn write_reply(log: &Log, identifier: u8, code: u8, doing: Doing, out: &mut [u8]) -> Result<usize, Refusal>
+fn write_reply(
+    log: &Log,
+    identifier: u8,
+    code: u8,
+    doing: Doing,
+    out: &mut [u8],
+) -> Result<usize, Refusal>
     requires { (bad_log log.now ≡ false) × (room ≤ length out.old) }
     ensures { after result out.new ≡ putting (reply_content identifier code (reply_of log.now doing)) out.old }
 {
     match doing {
         Doing::Read => write_addressed(MASTER, identifier, code, &oldest_waiting(log), out),
-        Doing::Delete | Doing::Restore | Doing::Clear => write_addressed(MASTER, identifier, SIGN, &[ACK], out),
+        Doing::Delete | Doing::Restore | Doing::Clear => write_addressed(
+            MASTER,
+            identifier,
+            SIGN,
+            &[ACK],
+            out,
+        ),
         Doing::Nack(number) => write_addressed(MASTER, identifier, SIGN, &[number], out),
     }
 }

@@ -2,17 +2,24 @@
 // and prints the content of the frame that it hears.
 #![tactic(auto)]
 
-use ground::put;
-use link::{Event, fresh_point, receive, write_point};
+use ground::{Refusal, put};
+use link::{Event, Heard, Verdict, fresh_point, receive, write_point};
 use std::io::Write;
 use std::process::ExitCode;
 use text::put_pairs;
 
+// Puts bytes as hex pairs to the front of a row, and ends it.
+fn put_row(bytes: &[u8], row: &mut [u8]) -> Result<usize, Refusal> {
+    let end = put_pairs(bytes, row, 0)?;
+    put(b"\n", row, end)
+}
+
 // Prints up to 8 bytes as hex pairs, in a row of their own, or says that it cannot.
 fn print(rt: &HostRuntime, bytes: &[u8]) -> bool {
     let mut row = [0u8; 24];
-    let pairs = put_pairs(bytes, &mut row, 0);
-    let end = put(b"\n", &mut row, pairs.end).end;
+    let Ok(end) = put_row(bytes, &mut row) else {
+        return false;
+    };
     let is_written = rt.stdout().write_all(&row[..end]).is_ok();
     if !is_written {
         let _ = eprintln!(rt; "example: standard output cannot be written");
@@ -23,19 +30,24 @@ fn print(rt: &HostRuntime, bytes: &[u8]) -> bool {
 // Whether all was written.
 fn run(rt: &HostRuntime) -> bool {
     let mut out = [0u8; 8];
-    let written = write_point(0x00, 0x00, &[], &mut out);
-    let count = written.count;
+    let Ok(count) = write_point(0x00, 0x00, &[], &mut out) else {
+        return false;
+    };
     prove!(count == 6);
     if !print(rt, &out[..count]) {
         return false;
     }
-    let heard = receive(fresh_point(), &out[..count]);
-    let event = heard.event;
-    let Event::Frame = event else {
+    let Ok(Heard {
+        told: Some(Verdict {
+            event: Event::Frame,
+            length,
+        }),
+        content,
+        ..
+    }) = receive(fresh_point(), &out[..count])
+    else {
         return false;
     };
-    let content = heard.content;
-    let length = heard.length;
     prove!(length == 2);
     print(rt, &content[..length])
 }

@@ -6,19 +6,24 @@ ghost use Rattle.wire_spec.specs.Limits.{most_content};
 ghost use Rattle.wire_spec.specs.Writing.{after, image_written};
 
 use checks::{Check, check_length, fcs, sum};
-use ground::{Refusal, put};
+use ground::Refusal;
 use wire::{MOST_CONTENT, write_image};
 
 // Writes the image of the frame with this head and data, known to be within the limit, to the front of `out`, and answers its length.
 // Refuses an `out` shorter than the image (NoRoom), and then leaves it as it was.
-pub(crate) fn write_frame(check: Check, head: &[u8], data: &[u8], out: &mut [u8]) -> Result<usize, Refusal>
+pub(crate) fn write_frame(
+    check: Check,
+    head: &[u8],
+    data: &[u8],
+    out: &mut [u8],
+) -> Result<usize, Refusal>
     requires { length head.now + length «data».now + check_length check ≤ most_content }
     ensures { after result out.new ≡ image_written (with_check check (head.now ++ «data».now)) out.old }
 {
     let mut content = [0u8; MOST_CONTENT];
-    put(head, &mut content, 0);
-    put(data, &mut content, head.len());
     let front = head.len() + data.len();
+    content[..head.len()].copy_from_slice(head);
+    content[head.len()..front].copy_from_slice(data);
     lay_check(check, &mut content, front);
     let end = front + check_length(check);
     write_image(&content[..end], out)
@@ -32,11 +37,8 @@ fn lay_check(check: Check, content: &mut [u8], front: usize)
     match check {
         Check::Fcs => {
             let value = fcs(&content[..front]);
-            put(&[(value % 256) as u8, (value / 256) as u8], content, front);
+            content[front..front + 2].copy_from_slice(&value.to_le_bytes());
         }
-        Check::Sum => {
-            let value = sum(&content[..front]);
-            put(&[value], content, front);
-        }
+        Check::Sum => content[front] = sum(&content[..front]),
     }
 }

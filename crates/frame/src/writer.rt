@@ -13,7 +13,12 @@ use link_spec::{LAST_ADDRESS, MOST_DATA};
 // Writes the image of a point frame to the front of `out`, and answers its length. Refuses data over 60 bytes (TooLong) and `out`
 // shorter than the image (NoRoom), in this order; a refusal leaves `out` as it was.
 #[tactic(auto, unfolding(link_spec::specs::Frame::point_content, link_spec::specs::Writers::point_written))]
-pub fn write_point(identifier: u8, command: u8, data: &[u8], out: &mut [u8]) -> Result<usize, Refusal>
+pub fn write_point(
+    identifier: u8,
+    command: u8,
+    data: &[u8],
+    out: &mut [u8],
+) -> Result<usize, Refusal>
     ensures { after result out.new ≡ point_written identifier command «data».now out.old }
 {
     write_unless(false, Check::Fcs, &[identifier, command], data, out)
@@ -43,7 +48,13 @@ pub fn write_addressed(
 
 // Writes the image of a frame with this head, or refuses it: `never` says that its address is never one.
 #[tactic(auto, unfolding(link_spec::specs::Writers::written_unless))]
-fn write_unless(never: bool, check: Check, head: &[u8], data: &[u8], out: &mut [u8]) -> Result<usize, Refusal>
+fn write_unless(
+    never: bool,
+    check: Check,
+    head: &[u8],
+    data: &[u8],
+    out: &mut [u8],
+) -> Result<usize, Refusal>
     requires { length head.now + check_length check ≡ least_content }
     ensures { after result out.new
         ≡ written_unless never «data».now (with_check check (head.now ++ «data».now)) out.old }

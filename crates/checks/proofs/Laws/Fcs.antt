@@ -41,6 +41,12 @@ pub fcs-lt : (bytes : List ℕ) → fcs bytes < 0x10000
 unfolding fcs
 fcs-lt bytes = xor_lt 16 (residue bytes) 0xFFFF (residue-lt bytes) (lit< tt)
 
+-- they are the bytes of the number itself, the low one first
+pub low_first : (bytes : List ℕ) (v : ℕ) → v ≡ fcs bytes → v % 0x100 ∷ v / 0x100 % 0x100 ∷ [] ≡ fcs_bytes bytes
+unfolding fcs_bytes
+low_first bytes v is =
+    ap₂ (λ (low high : ℕ). low ∷ high ∷ []) (ap (λ (n : ℕ). n % 0x100) is) (omega (arith, fcs-lt bytes))
+
 -- ---- F0B8
 
 run-append : (register : ℕ) (s t : List ℕ) → run register (s ++ t) ≡ run (run register s) t

@@ -1,6 +1,6 @@
 -- A receiver's turn follows the table of its rules, and the table leaves no other turn; a byte that is kept has room.
 -- Assumes nothing.
-use mathlib.Core.Path.{◌≡◌, refl, ◌∙◌}
+use mathlib.Core.Path.{◌≡◌, refl, subst⁻¹, ◌∙◌}
 use mathlib.Core.Bool.{Bool, true, false}
 use Prim.Native.Nat.{ℕ, zero, suc, ◌-◌, ◌≤◌, ◌<◌}
 use native.Mathlib.Omega.{arith}
@@ -150,3 +150,7 @@ rule-sound (long_pair known full) = tt
 
 pub turn-sound : (station : Station) (phase : Phase) (count b : ℕ) → Sound count (turn station phase count b)
 turn-sound station phase count b = rule-sound (turn-rule station phase count b)
+
+-- the same of a byte that a turn is known to keep
+pub keep-room : (station : Station) (phase : Phase) (count b : ℕ) {kept : ℕ} → Keep kept ≡ turn station phase count b → count < most_content
+keep-room station phase count b is = subst⁻¹ (Sound count) is (turn-sound station phase count b)

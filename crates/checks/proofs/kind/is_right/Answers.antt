@@ -1,12 +1,12 @@
 -- `kind::is_right`: a content shorter than its check has none that is right; of a longer one the bytes after the front are compared with the check
 -- of the front.
 -- Assumes nothing.
-use mathlib.Core.Path.{◌≡◌, sym, ap, ◌∙◌}
+use mathlib.Core.Path.{sym, ap, ◌∙◌}
 use mathlib.Core.List.{[], ◌∷◌}
-use Prim.Native.Nat.{ℕ, ◌/◌, ◌%◌}
+use Prim.Native.Nat.{ℕ}
 use native.Mathlib.Omega.{arith}
-use Rattle.checks.specs.Fcs.{fcs_bytes}
 use Rattle.checks.specs.Check.{check_of}
+use Rattle.checks.proofs.Laws.Fcs.{low_first}
 use Rattle.checks.proofs.Laws.Right.{right-none, right-compared}
 use Rattle.checks.proofs.kind.is_right.Goals as goal
 
@@ -16,14 +16,12 @@ returns-in_default c =
     sym (right-none a.check a.content.now (omega arith))
 
 pub returns-in-Fcs : goal.returns-in-Fcs
-unfolding check_of fcs_bytes
+unfolding check_of
 returns-in-Fcs c =
     let a = c.args in
     let e = c.in-Fcs.is in
-    let low_first : c.fcs.result % 0x100 ∷ c.fcs.result / 0x100 % 0x100 ∷ [] ≡ c.fcs.result % 0x100 ∷ c.fcs.result / 0x100 ∷ []
-    = ap (λ (b : ℕ). c.fcs.result % 0x100 ∷ b ∷ []) (omega arith) in
     right-compared a.check a.content.now c.in-Some.front _ _ _ (omega arith) c.split_at.ensures.front c.split_at.ensures.back
-    (rw e (c.as_slice.ensures ∙ c.to_le_bytes.ensures ∙ low_first ∙ ap (λ (v : ℕ). v % 0x100 ∷ v / 0x100 ∷ []) c.fcs.ensures)) c.eq.ensures
+    (rw e (c.as_slice.ensures ∙ c.to_le_bytes.ensures ∙ low_first c.split_at.result.0.now c.fcs.result c.fcs.ensures)) c.eq.ensures
 
 pub returns-in-Sum : goal.returns-in-Sum
 unfolding check_of
