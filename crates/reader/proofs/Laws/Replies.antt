@@ -32,20 +32,20 @@ not-refused : (r : Result ℕ Refusal) → (tally r).refusal ≡ 0 → IsOk r
 not-refused (Ok n) e = refl
 not-refused (Err why) e = absurd (number-some why e)
 
-module _ {r : Result ℕ Refusal} {out' : List ℕ} (identifier command : ℕ) («data» out : List ℕ) (fits : length «data» ≤ most_data)
-    (long : room ≤ length out) (says : after r out' ≡ point_written identifier command «data» out)
-  where
-    within : length (image (point_content identifier command «data»)) ≤ room
-    within = point-room identifier command «data» fits
+module _ (identifier command : ℕ) («data» out : List ℕ) (fits : length «data» ≤ most_data) (long : room ≤ length out) where
+  content-room : length (image (point_content identifier command «data»)) ≤ room
+  content-room = point-room identifier command «data» fits
 
-    written : after r out' ≡ putting (point_content identifier command «data») out
-    written = says ∙ point-writes identifier command «data» out fits (omega (arith, within))
+  written : point_written identifier command «data» out ≡ putting (point_content identifier command «data») out
+  written = point-writes identifier command «data» out fits (omega (arith, content-room))
 
-    pub reply-fine : IsOk r
-    reply-fine = not-refused r (ap (λ (a : After). a.tally.refusal) written)
+  pub reply-fine : (r : Result ℕ Refusal) {out' : List ℕ} → after r out' ≡ point_written identifier command «data» out → IsOk r
+  reply-fine r says = not-refused r (ap (λ (a : After). a.tally.refusal) (says ∙ written))
 
-    pub reply-put : {n : ℕ} → r ≡ Ok n → Fills n out' (point_content identifier command «data») out
-    reply-put is = let put = rw is at written in (put, omega (arith, within, ap (λ (a : After). a.tally.count) put))
+  pub reply-put : {n : ℕ} {out' : List ℕ} → after (Ok n) out' ≡ point_written identifier command «data» out
+      → Fills n out' (point_content identifier command «data») out
+  reply-put says =
+      let put = says ∙ written in (put, omega (arith, content-room, ap (λ (a : After). a.tally.count) put))
 
 -- what was put stands in front
 pub puts-front : {n : ℕ} {out' : List ℕ} (content out : List ℕ) → Fills n out' content out → take n out' ≡ image content

@@ -189,7 +189,7 @@ module _ (s : State) (i : Input) (lent : Buffers) where
             )
 
     module _ (well : LentWell i lent) where
-      refuses-request : fits (asking i.event) i.content ≡ false → answered s i lent ≡ not_answered BadRequest s lent
+      pub refuses-request : fits (asking i.event) i.content ≡ false → answered s i lent ≡ not_answered BadRequest s lent
       refuses-request bad = admits well.1 well.2 well.0 ∙ rw bad
 
       pub does-steps : fits (asking i.event) i.content ≡ true → answered s i lent ≡ stepped s i lent (asking i.event)
