@@ -24,7 +24,7 @@ returns-in-Read c =
 pub returns-then-is_code : goal.returns-then-is_code
 returns-then-is_code c =
     let a = c.args in
-    puts-card a.identifier a.code (value_of a.parameters) a.header a.antenna.now a.out.now
+    puts-card a.request.identifier a.request.code (value_of a.parameters) a.device.header a.device.antenna.now a.out.now
     c.in-Card.is
     (sym c.is_code.ensures ∙ c.if-is_code.true)
     c.write-then-is_code.ensures
@@ -32,7 +32,7 @@ returns-then-is_code c =
 pub returns-else-is_code : goal.returns-else-is_code
 returns-else-is_code c =
     let a = c.args in
-    puts-card a.identifier a.code (value_of a.parameters) a.header a.antenna.now a.out.now
+    puts-card a.request.identifier a.request.code (value_of a.parameters) a.device.header a.device.antenna.now a.out.now
     c.in-Card.is
     (sym c.is_code.ensures ∙ c.if-is_code.false)
     c.write_nack.ensures
