@@ -35,6 +35,7 @@ pub(crate) fn write_nack(identifier: u8, number: u8, out: &mut [u8]) -> usize
 }
 
 // Writes the reply to a command that is executed.
+#[tactic(auto, unfolding(reader_spec::specs::Replies::reply_to))]
 pub(crate) fn write_reply(
     parameters: Parameters,
     request: Request,
