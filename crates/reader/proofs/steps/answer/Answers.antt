@@ -1,17 +1,29 @@
 -- `steps::answer`: its tests are the rows of the refusal table, in their order; where none is met, it does the steps.
 -- Assumes nothing.
-use mathlib.Core.Path.{◌≡◌, sym, ap, ◌∙◌}
+use mathlib.Core.Path.{◌≡◌, refl, sym, ap, ◌∙◌}
 use mathlib.Core.Bool.{true}
 use mathlib.Core.Logic.{⊎_elim}
-use Rattle.link_spec.specs.Events.{named}
+use Rattle.ground.proofs.Laws.Choice.{no-case}
+use Rattle.link_spec.specs.Events.{Name, NONE, FRAME, CHECK, SHORT, LONG, PAIR, ADDR, named}
 use Rattle.reader_spec.specs.declared.reader.Asking.{Asking}
+use Rattle.reader_spec.specs.declared.reader.Asking.TheVariants.{Right}
 use Rattle.reader_spec.specs.State.{state_of}
+use Rattle.reader_spec.specs.Asking.{asking}
 use Rattle.reader_spec.specs.Sending.{Buffers, buffers_of}
 use Rattle.reader_spec.specs.Answering.{Input, input_of, fits, stepped, answered}
 use Rattle.reader_spec.proofs.Laws.Answering.{refuses-state, refuses-store, refuses-out, refuses-antenna, refuses-request, does-steps}
-use Rattle.reader.proofs.Laws.Answering.{asks-frame}
 use Rattle.reader.proofs.steps.answer.Goals as goal
 use Rattle.reader.proofs.steps.answer.Goals.{After-fits}
+
+-- a frame whose check is right is the only event that asks for steps 3 to 6
+asks-frame : (event : Name) → asking event ≡ Right → event ≡ FRAME
+asks-frame FRAME is = refl
+asks-frame NONE is = no-case (cc is)
+asks-frame CHECK is = no-case (cc is)
+asks-frame SHORT is = no-case (cc is)
+asks-frame LONG is = no-case (cc is)
+asks-frame PAIR is = no-case (cc is)
+asks-frame ADDR is = no-case (cc is)
 
 abbrev given : After-fits → Input
 given c = input_of (named c.args.event) c.args.content.now c.args.header c.args.antenna.now
