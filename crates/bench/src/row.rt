@@ -32,19 +32,22 @@ impl Row {
 
     // With these letters more. What has no room is left out.
     pub(crate) fn with(mut self, more: &[u8]) -> Row {
-        self.length = put(more, &mut self.letters, self.length).unwrap_or(self.length);
+        let end = self.length;
+        self.length = put(more, &mut self.letters, end).unwrap_or(end);
         self
     }
 
     // With these bytes more, as hex pairs.
     fn with_pairs(mut self, bytes: &[u8]) -> Row {
-        self.length = put_pairs(bytes, &mut self.letters, self.length).unwrap_or(self.length);
+        let end = self.length;
+        self.length = put_pairs(bytes, &mut self.letters, end).unwrap_or(end);
         self
     }
 
     // With a number more.
     fn with_decimal(mut self, n: u64) -> Row {
-        self.length = put_decimal(n, &mut self.letters, self.length).unwrap_or(self.length);
+        let end = self.length;
+        self.length = put_decimal(n, &mut self.letters, end).unwrap_or(end);
         self
     }
 

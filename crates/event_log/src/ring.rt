@@ -1,5 +1,6 @@
 // The ring of bodies: an empty log, a new entry by value, and the oldest that waits.
 ghost use Rattle.std.specs.Prelude.{◌≡◌, false, cond, eqb, ◌+◌, ◌%◌, ◌*◌, ◌≤◌, ◌<◌};
+ghost use Rattle.request_spec.specs.Header.{low_first};
 ghost use Rattle.event_log_spec.specs.Limits.{most_held, body_length};
 ghost use Rattle.event_log_spec.specs.Log.{empty_log, bad_log, identifier_before, oldest_waiting};
 ghost use Rattle.event_log_spec.specs.Appending.{one_more, with_entry, appended_as, appended_to};
@@ -90,16 +91,16 @@ pub(crate) fn oldest_waiting(log: &Log) -> [u8; ENTRY_LENGTH]
 {
     let at = body_start(log.start, log.held - log.waiting);
     let mut entry = [0u8; ENTRY_LENGTH];
-    entry[..4].copy_from_slice(&identifier_before(log.next, log.waiting).to_le_bytes());
+    entry[..4].copy_from_slice(&identifier_before(log.next, log.waiting));
     entry[4..].copy_from_slice(&log.bodies[at..at + BODY_LENGTH]);
     entry
 }
 
-// The identifier that is so many before the next one.
+// The identifier that is so many before the next one, low byte first.
 #[tactic(auto, unfolding(event_log_spec::specs::Log::identifier_before))]
-fn identifier_before(next: u32, count: usize) -> u32
+fn identifier_before(next: u32, count: usize) -> [u8; 4]
     requires { count ≤ most_held }
-    ensures { result ≡ identifier_before next count }
+    ensures { result ≡ low_first (identifier_before next count) }
 {
-    next.wrapping_sub(count as u32)
+    next.wrapping_sub(count as u32).to_le_bytes()
 }

@@ -2,14 +2,18 @@
 // and prints the content of the frame that it hears.
 #![tactic(auto)]
 
+ghost use Rattle.std.specs.Prelude.{◌≤◌, length, IfOk};
+
 use ground::{Refusal, put};
-use link::{Event, Heard, Verdict, fresh_point, receive, write_point};
+use link::{Event, Verdict, fresh_point, receive, write_point};
 use std::io::Write;
 use std::process::ExitCode;
 use text::put_pairs;
 
 // Puts bytes as hex pairs to the front of a row, and ends it.
-fn put_row(bytes: &[u8], row: &mut [u8]) -> Result<usize, Refusal> {
+fn put_row(bytes: &[u8], row: &mut [u8]) -> Result<usize, Refusal>
+    ensures { IfOk result (λ end. end ≤ length row.new) }
+{
     let end = put_pairs(bytes, row, 0)?;
     put(b"\n", row, end)
 }
@@ -37,19 +41,18 @@ fn run(rt: &HostRuntime) -> bool {
     if !print(rt, &out[..count]) {
         return false;
     }
-    let Ok(Heard {
-        told: Some(Verdict {
-            event: Event::Frame,
-            length,
-        }),
-        content,
-        ..
-    }) = receive(fresh_point(), &out[..count])
+    let Ok(heard) = receive(fresh_point(), &out[..count]) else {
+        return false;
+    };
+    let Some(Verdict {
+        event: Event::Frame,
+        length,
+    }) = heard.told
     else {
         return false;
     };
     prove!(length == 2);
-    print(rt, &content[..length])
+    print(rt, &heard.content[..length])
 }
 
 fn main(rt: HostRuntime) -> ExitCode {

@@ -3,15 +3,17 @@ ghost use Rattle.std.specs.Prelude.{◌≤◌, length};
 ghost use Rattle.link_spec.specs.Limits.{most_data};
 ghost use Rattle.link_spec.specs.Frame.{point_content};
 ghost use Rattle.request_spec.specs.Limits.{most_antenna};
-ghost use Rattle.request_spec.specs.Replies.{NACK, DATA, sign};
+ghost use Rattle.request_spec.specs.Replies.{NACK, sign};
 ghost use Rattle.reader_spec.specs.Limits.{room};
 ghost use Rattle.reader_spec.specs.Parameters.{value_of};
 ghost use Rattle.reader_spec.specs.Replies.{reply_content, reply_to};
 ghost use Rattle.reader.specs.Replies.{Fills};
 
+use crate::given::{Device, Request};
+use crate::values::value;
 use link::write_point;
 use reader_spec::Parameters;
-use request::{ACK, Command, HEADER_LENGTH, Parameter, SIGN, is_code};
+use request::{ACK, Command, SIGN, is_code};
 
 // The NACKs to a wrong check, and for no card.
 pub(crate) const WRONG_CHECK: u8 = 1;
@@ -34,45 +36,32 @@ pub(crate) fn write_nack(identifier: u8, number: u8, out: &mut [u8]) -> usize
 }
 
 // Writes the reply to a command that is executed.
+#[tactic(auto, unfolding(reader_spec::specs::Replies::reply_to))]
 pub(crate) fn write_reply(
     parameters: Parameters,
-    identifier: u8,
-    code: u8,
+    request: Request,
     command: Command,
-    header: [u8; HEADER_LENGTH],
-    antenna: &[u8],
+    device: Device,
     out: &mut [u8],
 ) -> usize
-    requires { (length antenna.now ≤ most_antenna) × (room ≤ length out.old) }
-    ensures { Fills result out.new (reply_content identifier code (reply_to (value_of parameters) command header antenna.now)) out.old }
+    requires { (length device.antenna.now ≤ most_antenna) × (room ≤ length out.old) }
+    ensures { Fills result out.new (reply_content request.entry.identifier request.entry.code (reply_to (value_of parameters) command device.entry.header device.entry.antenna.now)) out.old }
 {
     match command {
-        Command::Header => write(identifier, code, &header, out),
-        Command::Write(_) => write(identifier, SIGN, &[ACK], out),
-        Command::Read(parameter) => write_value(parameters, identifier, code, parameter, out),
+        Command::Header => write(request.identifier, request.code, &device.header, out),
+        Command::Write(_) => write(request.identifier, SIGN, &[ACK], out),
+        Command::Read(parameter) => write(
+            request.identifier,
+            request.code,
+            value(&parameters, parameter),
+            out,
+        ),
         Command::Card(card) => {
-            if is_code(card, antenna.len()) {
-                write(identifier, code, antenna, out)
+            if is_code(card, device.antenna.len()) {
+                write(request.identifier, request.code, device.antenna, out)
             } else {
-                write_nack(identifier, NO_CARD, out)
+                write_nack(request.identifier, NO_CARD, out)
             }
         }
-    }
-}
-
-fn write_value(
-    parameters: Parameters,
-    identifier: u8,
-    code: u8,
-    parameter: Parameter,
-    out: &mut [u8],
-) -> usize
-    requires { room ≤ length out.old }
-    ensures { Fills result out.new (reply_content identifier code (DATA (value_of parameters parameter))) out.old }
-{
-    match parameter {
-        Parameter::Speed => write(identifier, code, &[parameters.speed], out),
-        Parameter::Settings => write(identifier, code, &parameters.settings, out),
-        Parameter::Cell => write(identifier, code, &parameters.cell, out),
     }
 }

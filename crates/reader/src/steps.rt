@@ -8,6 +8,7 @@ ghost use Rattle.reader_spec.specs.Sending.{buffers_of};
 ghost use Rattle.reader_spec.specs.Answering.{input_of, answer_says, LentWell, nacked as nacked_of, executed as executed_of, framed, is_front, fits as fits_of, Answers};
 
 use crate::asking::asked_by;
+use crate::given::{Device, Request};
 use crate::memory::find;
 use crate::reply::{WRONG_CHECK, write_nack, write_reply};
 use crate::values::after_command;
@@ -48,7 +49,7 @@ pub fn answer(
     Ok(match asking {
         Asking::Nothing => sending(reader, Buffer::Out, 0),
         Asking::Wrong => nacking(reader, content[0], WRONG_CHECK, out),
-        Asking::Right => answer_frame(reader, content, header, antenna, store, out),
+        Asking::Right => answer_frame(reader, content, Device { header, antenna }, store, out),
     })
 }
 
@@ -56,58 +57,46 @@ pub fn answer(
 fn answer_frame(
     reader: Reader,
     content: &[u8],
-    header: [u8; HEADER_LENGTH],
-    antenna: &[u8],
+    device: Device,
     store: &mut [u8],
     out: &mut [u8],
 ) -> Answer
-    requires { (is_front content.now ≡ true) × LentWell (input_of FRAME content.now header antenna.now) (buffers_of store.old out.old) }
-    ensures { answer_says reader (Ok result) (buffers_of store.new out.new) ≡ framed (state_of reader) (input_of FRAME content.now header antenna.now) (buffers_of store.old out.old) }
+    requires { (is_front content.now ≡ true) × LentWell (input_of FRAME content.now device.header device.antenna.now) (buffers_of store.old out.old) }
+    ensures { answer_says reader (Ok result) (buffers_of store.new out.new) ≡ framed (state_of reader) (input_of FRAME content.now device.entry.header device.entry.antenna.now) (buffers_of store.old out.old) }
 {
-    let identifier = content[0];
-    let code = content[1];
-    if let Some(length) = find(reader.memory, identifier, code) {
+    let request = Request {
+        identifier: content[0],
+        code: content[1],
+        data: &content[2..],
+    };
+    if let Some(length) = find(reader.memory, request.identifier, request.code) {
         return sending(reader, Buffer::Store, length);
     }
-    let data = &content[2..];
-    match judge(reader.fast, code, data) {
-        Ok(command) => execute(
-            reader, identifier, code, data, command, header, antenna, store, out,
-        ),
-        Err(fault) => nacking(reader, identifier, nack_of(fault), out),
+    match judge(reader.fast, request.code, request.data) {
+        Ok(command) => execute(reader, request, command, device, store, out),
+        Err(fault) => nacking(reader, request.identifier, nack_of(fault), out),
     }
 }
 
 // Step 6.
 fn execute(
     reader: Reader,
-    identifier: u8,
-    code: u8,
-    data: &[u8],
+    request: Request,
     command: Command,
-    header: [u8; HEADER_LENGTH],
-    antenna: &[u8],
+    device: Device,
     store: &mut [u8],
     out: &mut [u8],
 ) -> Answer
-    requires { FitsCommand command «data».now × LentWell (input_of FRAME «data».now header antenna.now) (buffers_of store.old out.old) }
-    ensures { answer_says reader (Ok result) (buffers_of store.new out.new) ≡ executed_of (state_of reader) (input_of FRAME (identifier ∷ code ∷ «data».now) header antenna.now) (buffers_of store.old out.old) command }
+    requires { FitsCommand command request.«data».now × LentWell (input_of FRAME request.«data».now device.header device.antenna.now) (buffers_of store.old out.old) }
+    ensures { answer_says reader (Ok result) (buffers_of store.new out.new) ≡ executed_of (state_of reader) (input_of FRAME (request.entry.identifier ∷ request.entry.code ∷ request.entry.«data».now) device.entry.header device.entry.antenna.now) (buffers_of store.old out.old) command }
 {
-    let length = write_reply(
-        reader.parameters,
-        identifier,
-        code,
-        command,
-        header,
-        antenna,
-        out,
-    );
+    let length = write_reply(reader.parameters, request, command, device, out);
     store[..length].copy_from_slice(&out[..length]);
     let reader = Reader {
-        parameters: after_command(reader.parameters, command, data),
+        parameters: after_command(reader.parameters, command, request.data),
         memory: Some(Last {
-            identifier,
-            command: code,
+            identifier: request.identifier,
+            command: request.code,
             length,
         }),
         ..reader

@@ -32,6 +32,7 @@ fn fresh_parameters() -> Parameters
 }
 
 // Forgets the last command, and keeps the parameters but for a speed above 7, which becomes 3. Refuses a bad reader (BadState).
+#[tactic(auto, unfolding(reader_spec::specs::Answering::powered_on))]
 pub fn power_on(reader: Reader) -> Result<Reader, Refusal>
     ensures { powering reader result ≡ powered_on (state_of reader) }
 {

@@ -27,24 +27,23 @@ pub fn write_sums(line: Line, sums: Sums, out: &mut [u8]) -> Result<usize, Refus
     ensures { ended 0 result out.new ≡ put_of (sums_row line sums) out.old 0 }
 {
     let mut row = [0u8; MOST_ROW];
-    let named = put_name(line, &mut row)?;
-    let counted = put_marked(BLANK, sums.frames, &mut row, named)?;
-    let heard = put_marked(BLANK, sums.heard, &mut row, counted)?;
-    let inside = put_marked(BLANK, sums.inside, &mut row, heard)?;
-    let reserved = put_marked(BLANK, sums.reserved, &mut row, inside)?;
-    let apart = put(&[BLANK], &mut row, reserved)?;
+    let mut end = put(name(line), &mut row, 0)?;
+    for number in [sums.frames, sums.heard, sums.inside, sums.reserved] {
+        end = put_marked(BLANK, number, &mut row, end)?;
+    }
+    let apart = put(&[BLANK], &mut row, end)?;
     let differed = put_difference(sums.reserved, sums.heard, &mut row, apart)?;
-    let end = put(b"\n", &mut row, differed)?;
-    put(&row[..end], out, 0)
+    let length = put(b"\n", &mut row, differed)?;
+    put(&row[..length], out, 0)
 }
 
-// Puts the letter of a line to the front of a row.
+// The letter of a line.
 #[tactic(auto, unfolding(text::specs::Ascii::ascii, totals_spec::specs::Rows::line_name))]
-fn put_name(line: Line, row: &mut [u8]) -> Result<usize, Refusal>
-    ensures { ended 0 result row.new ≡ put_of (line_name line) row.old 0 }
+fn name(line: Line) -> &'static [u8]
+    ensures { result.now ≡ line_name line }
 {
     match line {
-        Line::Point => put(b"P", row, 0),
-        Line::Addressed => put(b"A", row, 0),
+        Line::Point => b"P",
+        Line::Addressed => b"A",
     }
 }

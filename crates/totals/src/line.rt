@@ -1,5 +1,6 @@
 // The bytes of one line, heard together.
 ghost use Rattle.std.specs.Prelude.{◌≡◌, false, ◌≤◌, length};
+ghost use Rattle.wire_spec.specs.Stuffing.{specials as specials_of};
 ghost use Rattle.link_spec.specs.Receiving.{bad_receiver};
 ghost use Rattle.tape_spec.specs.Limits.{most_records};
 ghost use Rattle.totals_spec.specs.Adding.{account, after_bytes, bad_sums};
@@ -9,7 +10,6 @@ use link::{Event, Phase, Receiver};
 use link_spec::Turn;
 use rules::{at_byte, at_stop};
 use totals_spec::Sums;
-use wire::image_length;
 use wire_spec::START;
 
 // A line's receiver, and its sums.
@@ -22,18 +22,17 @@ pub(crate) struct Account {
 // Lets the receiver hear all of `piece`, by the rules for one byte and, where a run of bytes changes nothing else, by a sweep over it. At each
 // FRAME it adds a frame, the bytes of its image, and those that are reserved for it.
 pub(crate) fn hear(receiver: Receiver, sums: Sums, piece: &[u8]) -> Account
-    requires receiver_value { bad_receiver receiver ≡ false }
-    requires sums_value { bad_sums most_records sums ≡ false }
-    requires piece_len_bound { length piece.now ≤ most_records }
+    requires good { bad_receiver receiver ≡ false }
+    requires counted { bad_sums most_records sums ≡ false }
+    requires short { length piece.now ≤ most_records }
     ensures { account result.receiver result.sums ≡ after_bytes (account receiver sums) piece.now }
 {
     let station = receiver.station;
     let mut phase = receiver.phase;
     let mut count = receiver.count;
     let mut content = receiver.content;
-    // the content bytes so far that are FD, FE or FF, for each of which an image has a byte more
-    let begun = image_length(&content[..count]);
-    let mut specials = begun.count - 2 - count;
+    // an image has a byte more for each of them
+    let mut specials = count_specials(&content[..count]);
     let mut frames = sums.frames;
     let mut inside = sums.inside;
     let mut reserved = sums.reserved;
@@ -68,21 +67,16 @@ pub(crate) fn hear(receiver: Receiver, sums: Sums, piece: &[u8]) -> Account
                     }
                 }
                 Turn::Stop => {
-                    let verdict = at_stop(station, &content[..count]);
-                    let event = verdict.event;
-                    match event {
-                        Event::Frame => {
-                            frames += 1;
-                            inside += (2 + count + specials) as u64;
-                            reserved += (2 + 2 * count) as u64;
-                        }
-                        _ => {}
+                    if at_stop(station, &content[..count]).event == Event::Frame {
+                        frames += 1;
+                        inside += (2 + count + specials) as u64;
+                        reserved += (2 + 2 * count) as u64;
                     }
                     phase = Phase::Outside;
                     count = 0;
                     specials = 0;
                 }
-                Turn::Tell(_event) => {
+                Turn::Tell(_) => {
                     phase = Phase::Outside;
                     count = 0;
                     specials = 0;
@@ -104,4 +98,11 @@ pub(crate) fn hear(receiver: Receiver, sums: Sums, piece: &[u8]) -> Account
             reserved,
         },
     }
+}
+
+// How many bytes of a content are FD, FE or FF: the last three of all bytes.
+fn count_specials(content: &[u8]) -> usize
+    ensures { result ≡ specials_of content.now }
+{
+    content.iter().filter(|&&byte| byte >= START).count()
 }

@@ -2,7 +2,7 @@
 ghost use Rattle.std.specs.Prelude.{◌≡◌, false, ◌&&◌, [], ◌+◌, ◌*◌, ◌≤◌, eqb, length, take};
 ghost use Rattle.tape_spec.specs.Limits.{most_records};
 ghost use Rattle.tape_spec.specs.Taping.{awaits_body};
-ghost use Rattle.totals.specs.Splitting.{pieces, parted_in, split_on};
+ghost use Rattle.totals.specs.Splitting.{parted_in, split_on};
 
 use ground::least;
 use reel::{after_kind, kind_of};
@@ -25,44 +25,33 @@ pub(crate) fn split(
     point: &mut [u8],
     addressed: &mut [u8],
 ) -> Parted
-    requires most_records_value { (awaits_body next && eqb records most_records) ≡ false }
-    requires part_len_bound { length part.now ≤ 2 * length point.old }
-    requires part_len_bound_2 { length part.now ≤ 2 * length addressed.old }
-    ensures point_in_bounds { result.point ≤ length point.new }
-    ensures addressed_in_bounds { result.addressed ≤ length addressed.new }
-    ensures addressed_after { parted_in result point.new addressed.new ≡ split_on records next part.now [] [] }
+    requires permitted { (awaits_body next && eqb records most_records) ≡ false }
+    requires point_room { length part.now ≤ 2 * length point.old }
+    requires addressed_room { length part.now ≤ 2 * length addressed.old }
+    ensures point_within { result.point ≤ length point.new }
+    ensures addressed_within { result.addressed ≤ length addressed.new }
+    ensures heard { parted_in result point.new addressed.new ≡ split_on records next part.now [] [] }
 {
-    if part.len() == 0 {
-        return none_heard(records, next);
-    }
-    match next {
-        Next::Kind => split_records(records, part, point, 0, addressed, 0),
-        Next::Body(line) => match line {
-            Line::Point => {
-                point[0] = part[0];
-                split_records(records + 1, &part[1..], point, 1, addressed, 0)
-            }
-            Line::Addressed => {
-                addressed[0] = part[0];
-                split_records(records + 1, &part[1..], point, 0, addressed, 1)
-            }
-        },
-        Next::Bad => none_heard(records, next),
-        Next::Full => none_heard(records, next),
-    }
-}
-
-// No byte was heard.
-fn none_heard(records: u32, next: Next) -> Parted
-    ensures point_value { result.point ≡ 0 }
-    ensures addressed_value { result.addressed ≡ 0 }
-    ensures result_value { parted_in result [] [] ≡ pieces records next [] [] }
-{
-    Parted {
+    let none = Parted {
         records,
         next,
         point: 0,
         addressed: 0,
+    };
+    let Some((&body, rest)) = part.split_first() else {
+        return none;
+    };
+    match next {
+        Next::Kind => split_records(records, part, point, 0, addressed, 0),
+        Next::Body(Line::Point) => {
+            point[0] = body;
+            split_records(records + 1, rest, point, 1, addressed, 0)
+        }
+        Next::Body(Line::Addressed) => {
+            addressed[0] = body;
+            split_records(records + 1, rest, point, 0, addressed, 1)
+        }
+        Next::Bad | Next::Full => none,
     }
 }
 
@@ -76,11 +65,11 @@ fn split_records(
     addressed: &mut [u8],
     on_addressed: usize,
 ) -> Parted
-    requires rest_bound { 2 * on_point + length rest.now ≤ 2 * length point.old + 1 }
-    requires rest_bound_2 { 2 * on_addressed + length rest.now ≤ 2 * length addressed.old + 1 }
-    ensures point_in_bounds { result.point ≤ length point.new }
-    ensures addressed_in_bounds { result.addressed ≤ length addressed.new }
-    ensures addressed_after { parted_in result point.new addressed.new
+    requires point_room { 2 * on_point + length rest.now ≤ 2 * length point.old + 1 }
+    requires addressed_room { 2 * on_addressed + length rest.now ≤ 2 * length addressed.old + 1 }
+    ensures point_within { result.point ≤ length point.new }
+    ensures addressed_within { result.addressed ≤ length addressed.new }
+    ensures heard { parted_in result point.new addressed.new
         ≡ split_on records Next.Kind rest.now (take on_point point.old) (take on_addressed addressed.old) }
 {
     let limit = least((MOST_RECORDS - records) as usize, rest.len() / 2);

@@ -11,11 +11,8 @@ pub(crate) fn skip(piece: &[u8], from: usize) -> usize
     requires { from ≤ length piece.now }
     ensures { Skipped piece.now from result }
 {
-    let mut at = from;
-    while at < piece.len() && piece[at] != START {
-        at += 1;
-    }
-    at
+    let rest = &piece[from..];
+    from + rest.iter().position(|&byte| byte == START).unwrap_or(rest.len())
 }
 
 // Inside a frame, keeps the bytes from the place `from` on that stand for themselves, as many as the content has room for, and answers how
@@ -27,9 +24,9 @@ pub(crate) fn keep(
     piece: &[u8],
     from: usize,
 ) -> usize
-    requires content_len { length content.old ≡ most_content }
-    requires count_le_most_content { count ≤ most_content }
-    requires from_in_bounds { from ≤ length piece.now }
+    requires sized { length content.old ≡ most_content }
+    requires within { count ≤ most_content }
+    requires part { from ≤ length piece.now }
     ensures { Kept station content.old count piece.now from result content.new }
 {
     if is_address(station, count) {
@@ -49,8 +46,5 @@ pub(crate) fn keep(
 fn is_address(station: Station, count: usize) -> bool
     ensures { IsAddress station count result }
 {
-    match station {
-        Station::Point => false,
-        Station::Addressed(_own) => count == 0,
-    }
+    matches!(station, Station::Addressed(_)) && count == 0
 }

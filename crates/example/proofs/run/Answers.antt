@@ -9,7 +9,7 @@ use Rattle.link_spec.specs.declared.receiver.Receiver.{Receiver}
 use Rattle.link_spec.specs.declared.station.Station.TheVariants.{Point}
 use Rattle.link_spec.specs.Frame.{point_content}
 use Rattle.link_spec.specs.Writers.{written_unless, point_written}
-use Rattle.link_spec.specs.Events.{verdict}
+use Rattle.link_spec.specs.Events.{verdict, length_told}
 use Rattle.link_spec.specs.Turning.{kept, plain, content_byte, inside, within, turn}
 use Rattle.link_spec.specs.Receiving.{fresh_receiver, Said, moved, outcome, heard, received}
 use Rattle.example.proofs.run.Goals as goal
@@ -38,9 +38,11 @@ carries says = ap (λ (s : Said). s.length) says
 
 pub prove-unreachable-requires : goal.prove-unreachable-requires
 unfolding written
-prove-unreachable-requires c = c.if-prove.true (counts c.write_point-written.ensures)
+prove-unreachable-requires c = c.if-prove.true (counts (rw c.in-Ok.is at c.write_point.ensures))
 
 pub prove-unreachable-requires-2 : goal.prove-unreachable-requires-2
 unfolding written
 prove-unreachable-requires-2 c =
-    c.if-prove-2.true (carries (hears c.write_point-written.ensures c.fresh_point.ensures c.receive-heard.ensures))
+    let two : length_told c.in-Ok-receive.heard.told ≡ 2 =
+    carries (hears (rw c.in-Ok.is at c.write_point.ensures) c.fresh_point.ensures (rw c.in-Ok-receive.is at c.receive.ensures)) in
+    c.if-prove-2.true (rw c.in-Some-Frame.is (rw c.in-Some-Frame.is at two))

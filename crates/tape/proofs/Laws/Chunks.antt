@@ -24,10 +24,6 @@ use Rattle.tape_spec.proofs.Laws.Taping.{went_after}
 use Rattle.tape.specs.Running.{linked, laced, Run, running, Left, RunHeard}
 use Rattle.tape.proofs.Laws.Going.{going-over, going-full, going-kind, running-some, running-within, running-good, goes_on}
 
--- what a result says, over this buffer
-abbrev pub over : List ℕ → ListedOut → ListedOut
-over out d = record { refusal = d.refusal; tape = d.tape; taken = d.taken; written = d.written; out = out }
-
 -- a result with where its text ends and what it left
 abbrev wrote : Tape → ℕ → Ended → ListedOut
 wrote t taken e = listed_to t taken e.end e.out

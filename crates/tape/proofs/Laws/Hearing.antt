@@ -1,24 +1,41 @@
 -- How the loop over gathered bodies goes: what is left of them gives what all of them give.
 -- Assumes nothing.
-use mathlib.Core.Path.{◌≡◌, sym, ap, ap₂, subst⁻¹, ◌∙◌}
-use mathlib.Core.Bool.{false}
+use mathlib.Core.Path.{◌≡◌, refl, sym, ap, ap₂, subst⁻¹, ◌∙◌}
+use mathlib.Core.Bool.{Bool, false, cond}
 use mathlib.Core.List.{List}
 use Prim.Native.Nat.{ℕ, ◌+◌, ◌-◌, ◌≤◌, ◌<◌}
 use native.Mathlib.Nat.{add-zero, zero-add, add_assoc}
 use native.Mathlib.Omega.{arith}
 use lib.ListN.{length, drop, length-drop, drop_of_length-le}
 use lib.Seq.{drop-drop}
-use Rattle.ground.specs.declared.laying.Placed.{Placed}
+use Rattle.std.specs.Prelude.{Result, Ok, Err}
+use Rattle.std.specs.Result.{IsOk}
+use Rattle.ground.specs.declared.refusal.Refusal.{Refusal}
+use Rattle.ground.specs.declared.refusal.Refusal.TheVariants.{BadState}
+use Rattle.ground.specs.Refusals.{number}
 use Rattle.ground.specs.Laying.{laid, Ended, ended, placed, put}
+use Rattle.ground.proofs.Laws.Refusals.{number-some}
 use Rattle.ground.proofs.Laws.Laying.{length-laid, put-placed, placed-nil, placed-more}
 use Rattle.link_spec.specs.declared.receiver.Receiver.{Receiver}
-use Rattle.link_spec.specs.Receiving.{Said, bad_receiver, received}
-use Rattle.link_spec.proofs.Laws.Receiving.{received-takes, stays-good}
+use Rattle.link_spec.specs.declared.receiver.Heard.{Heard}
+use Rattle.link_spec.specs.Receiving.{Said, saying, bad_receiver, received}
+use Rattle.link_spec.proofs.Laws.Receiving.{refused-only, received-takes, stays-good}
 use Rattle.tape_spec.specs.declared.tape.Line.{Line}
 use Rattle.tape_spec.specs.Limits.{least_room, most_records}
 use Rattle.tape_spec.proofs.Laws.Taping.{heard-row-within}
 use Rattle.tape.specs.Running.{Run, resting, running, Left, run_left}
 use Rattle.tape.proofs.Laws.Running.{call_text, Hears, running-full, running-piece}
+
+-- a call on a receiver that is not bad is not refused, and neither is a row that has room
+pub heard-ok : (s : Receiver) (piece : List ℕ) (r : Result Heard Refusal) → bad_receiver s ≡ false → saying s r ≡ received s piece → IsOk r
+heard-ok s piece (Ok h) good says = refl
+heard-ok s piece (Err why) good says =
+    absurd (number-some why (ap (λ (d : Said). d.refusal) says ∙ refused-only s piece ∙ ap (λ (b : Bool). cond b (number BadState) 0) good))
+
+put-ok : (bytes out : List ℕ) (at : ℕ) (r : Result ℕ Refusal) (o : List ℕ) → ended at r o ≡ put bytes out at → length bytes ≤ length out - at
+    → IsOk r
+put-ok bytes out at (Ok end) o says fits = refl
+put-ok bytes out at (Err why) o says fits = absurd (number-some why (ap (λ (e : Ended). e.refusal) (says ∙ put-placed bytes out at fits)))
 
 -- a result with where its rows end and what they left
 abbrev left_by : Receiver → ℕ → Ended → Left
@@ -92,9 +109,11 @@ module _ (line : Line) (records : ℕ) (bodies : List ℕ) (all : Left) where
           ∙ ap (λ (v : Run). leaving_after count v out end)
           (sym (running-piece line left (length out - end) (records + count) s goes.good fits))
 
-      pub next-call : (r : Placed) (o : List ℕ) → ended r o ≡ put text out end
-          → Goes o said.receiver (count + said.taken) r.end
-      next-call r o says =
+      pub row-ok : (r : Result ℕ Refusal) (o : List ℕ) → ended end r o ≡ put text out end → IsOk r
+      row-ok r o says = put-ok text out end r o says text-fits
+
+      pub next-call : {e : Ended} → e ≡ put text out end → Goes e.out said.receiver (count + said.taken) e.end
+      next-call says =
           let puts = says ∙ put-placed text out end text-fits in
           let size : length (laid out end text) ≡ length out = length-laid out end text (omega (arith, text-fits, goes.ends)) in
           let room : length (laid out end text) - (end + length text) ≡ length out - end - length text = omega arith in

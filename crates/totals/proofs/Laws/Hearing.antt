@@ -9,6 +9,7 @@ use native.Mathlib.Nat.{add_assoc}
 use native.Mathlib.Omega.{arith}
 use lib.ListN.{length, take, drop, get_or, drop_of_length-le}
 use lib.Seq.{length-take-le}
+use Rattle.std.specs.Prelude.{Some}
 use Rattle.ground.proofs.Laws.Lists.{drop-next}
 use Rattle.wire_spec.specs.Stuffing.{specials}
 use Rattle.wire_spec.specs.Image.{image, image_length}
@@ -58,6 +59,17 @@ module _ (station : Station) (heard : ℕ) (piece : List ℕ) (all : Account) wh
     s-good : bad_receiver s ≡ false
     s-good = fit-good good goes.fit
 
+    -- the sums stay within what more bytes allow
+    within-more : (k : ℕ) → SumsWithin (most_records + (taken + k)) (sums_now frames inside reserved (taken + k))
+    within-more k =
+        let w = goes.within in
+        record {
+          frames = omega (arith, w.frames);
+          heard = omega (arith, w.heard);
+          inside = omega (arith, w.inside);
+          reserved = omega (arith, w.reserved);
+        }
+
     -- over some bytes without a FRAME
     pass : (k : ℕ) (phase' : Phase) (count' : ℕ) (content' : List ℕ) (special' : ℕ)
         → let r = receiver_of station phase' count' content' in
@@ -66,18 +78,11 @@ module _ (station : Station) (heard : ℕ) (piece : List ℕ) (all : Account) wh
         → Goes phase' count' content' special' frames inside reserved (taken + k)
     pass k phase' count' content' special' passes part fit is =
         let r = receiver_of station phase' count' content' in
-        let w = goes.within in
         record {
           part = part;
           fit = fit;
           counted = is;
-          within =
-              record {
-                frames = omega (arith, w.frames);
-                heard = omega (arith, w.heard);
-                inside = omega (arith, w.inside);
-                reserved = omega (arith, w.reserved);
-              };
+          within = within-more k;
           same =
               ap (λ (h : ℕ). after_bytes (account r (sums_of frames h inside reserved)) (drop (taken + k) piece)) (sym (add_assoc heard taken k))
               ∙ sym (passes.same (sums_now frames inside reserved taken))
@@ -157,28 +162,14 @@ module _ (station : Station) (heard : ℕ) (piece : List ℕ) (all : Account) wh
       -- the frame is given up
       pub go-tell : {why : Event} → Tell why ≡ turn station phase count b → Goes Outside 0 content 0 frames inside reserved (taken + 1)
       go-tell is =
-          let w = goes.within in
-          next byte_more frames inside reserved refl (tell-turn s (sums_now frames inside reserved taken) b rest s-good is)
-          (record {
-            frames = omega (arith, w.frames);
-            heard = omega (arith, w.heard);
-            inside = omega (arith, w.inside);
-            reserved = omega (arith, w.reserved);
-          })
+          next byte_more frames inside reserved refl (tell-turn s (sums_now frames inside reserved taken) b rest s-good is) (within-more 1)
 
       -- a stop byte that tells no FRAME
-      pub go-stop : Stop ≡ turn station phase count b → is_frame (named (verdict (check_on station) (take count content)).event) ≡ false
+      pub go-stop : Stop ≡ turn station phase count b → is_frame (named (Some (verdict (check_on station) (take count content)).event)) ≡ false
           → Goes Outside 0 content 0 frames inside reserved (taken + 1)
       go-stop is other =
-          let w = goes.within in
-          next byte_more frames inside reserved refl
-          (stop-turn s (sums_now frames inside reserved taken) b rest s-good is ∙ rw other refl)
-          (record {
-            frames = omega (arith, w.frames);
-            heard = omega (arith, w.heard);
-            inside = omega (arith, w.inside);
-            reserved = omega (arith, w.reserved);
-          })
+          next byte_more frames inside reserved refl (stop-turn s (sums_now frames inside reserved taken) b rest s-good is ∙ rw other refl)
+          (within-more 1)
 
       -- the content so far
       whole : length (take count content) ≡ count
@@ -187,7 +178,7 @@ module _ (station : Station) (heard : ℕ) (piece : List ℕ) (all : Account) wh
       pub specials-few : special ≤ count
       specials-few = omega (arith, goes.counted, specials-most (take count content), whole)
 
-      pub go-frame : Stop ≡ turn station phase count b → FRAME ≡ named (verdict (check_on station) (take count content)).event
+      pub go-frame : Stop ≡ turn station phase count b → FRAME ≡ named (Some (verdict (check_on station) (take count content)).event)
           → Goes Outside 0 content 0 (frames + 1) (inside + (2 + count + special)) (reserved + (2 + 2 * count)) (taken + 1)
       unfolding image_length
       go-frame is frame =

@@ -10,7 +10,7 @@ use native.Mathlib.Omega.{arith}
 use borrow.Author.Tests.{eq-eqb, ne_eqb}
 use lib.ListN.{length, take, drop, set, get_or, length-set, drop_of_length-le}
 use lib.Seq.{take-suc-set}
-use Rattle.ground.proofs.Laws.Lists.{drop-next, take_rest}
+use Rattle.ground.proofs.Laws.Lists.{drop-next}
 use Rattle.tape_spec.specs.declared.tape.Line.{Line}
 use Rattle.tape_spec.specs.declared.tape.Line.TheVariants.{Point, Addressed}
 use Rattle.tape_spec.specs.declared.tape.Next.{Next}
@@ -22,7 +22,6 @@ use Rattle.tape_spec.specs.Taping.{after_kind, is_over}
 use Rattle.tape_spec.proofs.Laws.Whole.{kind-known}
 use Rattle.totals_spec.specs.Adding.{Chunk, chunk_of}
 use Rattle.totals_spec.proofs.Laws.Chunks.{no_record}
-use Rattle.totals.specs.declared.split.Parted.{Parted}
 use Rattle.totals.specs.Splitting.{Pieces, pieces, parted_in, split_on}
 
 -- ---- what follows a kind
@@ -55,17 +54,10 @@ pub none_left : (n : ℕ) (next : Next) (l : List ℕ) (k : ℕ) → length l �
 unfolding chunk_of
 none_left n next l k over = ap (chunk_of n next) (drop_of_length-le l over)
 
--- a call that found none
-pub none-heard : (n : ℕ) (next : Next) (l point addressed : List ℕ) (r : Parted) → chunk_of n next l ≡ no_record next
-    → (r.point ≡ 0) × ((r.addressed ≡ 0) × (parted_in r [] [] ≡ pieces n next [] []))
-    → (r.point ≤ length point) × ((r.addressed ≤ length addressed) × (parted_in r point addressed ≡ split_on n next l [] []))
-none-heard n next l point addressed r none (p, (a, e)) = (
-  omega arith,
-  (
-    omega arith,
-    (λ i. pieces (e i).records (e i).next (take (p i) point) (take (a i) addressed)) ∙ sym (splits-none n next l [] [] none),
-  ),
-)
+-- so a call that found none heard no byte
+pub none-heard : (n : ℕ) (next : Next) (l point addressed : List ℕ) → chunk_of n next l ≡ no_record next
+    → parted_in (record { records = n; next = next; point = 0; addressed = 0 }) point addressed ≡ split_on n next l [] []
+none-heard n next l point addressed none = sym (splits-none n next l [] [] none)
 
 -- a body
 splits-body : (line : Line) (n b : ℕ) (l p a : List ℕ)
@@ -79,13 +71,13 @@ splits-body line n b l p a =
     (append_assoc a (byte_on Addressed r) (bytes_on Addressed c.records) i)
 
 -- a part that begins with one
-pub after-body : (line : Line) (n : ℕ) (part : List ℕ) {next : Next} {p a : List ℕ} → 0 < length part → next ≡ Body line
-    → p ≡ byte_on Point (heard_on line (get_or part 0 0)) → a ≡ byte_on Addressed (heard_on line (get_or part 0 0))
-    → split_on (n + 1) Kind (take (length part - 1) (drop 1 part)) p a ≡ split_on n next part [] []
-after-body line n part some told p a =
-    (λ i. split_on (n + 1) Kind (take_rest part 1 i) (p i) (a i))
-    ∙ splits-body line n (get_or part 0 0) (drop 1 part) [] []
-    ∙ ap₂ (λ (x : Next) (l : List ℕ). split_on n x l [] []) (sym told) (sym (drop-next part 0 some))
+pub after-body : (line : Line) (n b : ℕ) (rest : List ℕ) {part : List ℕ} {next : Next} {p a : List ℕ} → part ≡ b ∷ rest → next ≡ Body line
+    → p ≡ byte_on Point (heard_on line b) → a ≡ byte_on Addressed (heard_on line b)
+    → split_on (n + 1) Kind rest p a ≡ split_on n next part [] []
+after-body line n b rest begins told p a =
+    (λ i. split_on (n + 1) Kind rest (p i) (a i))
+    ∙ splits-body line n b rest [] []
+    ∙ ap₂ (λ (x : Next) (l : List ℕ). split_on n x l [] []) (sym told) (sym begins)
 
 -- a record
 splits-record : (line : Line) (n b : ℕ) (l p a : List ℕ) → n < most_records

@@ -17,5 +17,5 @@ returns c =
     let at = c.body_start-at.result in
     let count : at + body_length - at ≡ body_length = omega arith in
     let body = append-nil (take (at + body_length - at) (drop at bodies)) ∙ ap₂ (λ (k n : ℕ). take k (drop n bodies)) count c.body_start-at.ensures in
-    rw (c.copy_from_slice.ensures.after, c.copy_from_slice-2.ensures.after, c.to_le_bytes.ensures, c.identifier_before.ensures)
+    rw (c.copy_from_slice.ensures.after, c.copy_from_slice-2.ensures.after, c.identifier_before.ensures)
     (ap (λ (l : List ℕ). low_first (identifier_before c.args.log.now.next c.args.log.now.waiting) ++ l) body)

@@ -1,50 +1,50 @@
 -- `steps::answer_frame`: the memory says whether it is step 3, and what this reader makes of code and data whether it is 4, 5 or 6.
 -- Assumes nothing.
-use mathlib.Core.Path.{sym, ◌∙◌}
+use mathlib.Core.Path.{◌≡◌, sym, ap, ◌∙◌}
+use Rattle.std.specs.Prelude.{Some, None, Result, Ok, Err}
 use Rattle.ground.proofs.Laws.Lists.{take_rest}
-use Rattle.request_spec.specs.declared.command.Acceptance.TheVariants.{Accepted, Faulty}
-use Rattle.request_spec.specs.Replies.{NACK, sign, identifier_of, command_of}
+use Rattle.request_spec.specs.declared.command.Command.{Command}
+use Rattle.request_spec.specs.declared.command.Fault.{Fault}
+use Rattle.request_spec.specs.Replies.{identifier_of, command_of, data_of}
 use Rattle.request_spec.proofs.Laws.Acceptance.{judged-as}
-use Rattle.reader_spec.specs.declared.reader.Repeat.TheVariants.{Stored}
 use Rattle.reader_spec.specs.Speeds.{served}
-use Rattle.reader_spec.specs.Replies.{reply_content}
+use Rattle.reader_spec.specs.State.{State, find}
+use Rattle.reader_spec.specs.Sending.{Buffers}
+use Rattle.reader_spec.specs.Answering.{Input, judged, framed}
 use Rattle.reader_spec.proofs.Laws.Speeds.{served-fits}
 use Rattle.reader_spec.proofs.Laws.Answering.{framed-by}
-use Rattle.reader.proofs.Laws.Answering.{put-answers, framed-new}
 use Rattle.reader.proofs.steps.answer_frame.Goals as goal
 
-pub returns-in-Stored : goal.returns-in-Stored
-returns-in-Stored c =
-    let found = sym c.find.ensures ∙ c.in-Stored.is in
-    rw (c.sending.ensures, framed-by {k = Stored c.in-Stored.length})
+-- a frame that repeats nothing, by what this reader makes of it: steps 4 to 6
+framed-new : {a : Result Command Fault} (s : State) (i : Input) (lent : Buffers) → find s.last (identifier_of i.content) (command_of i.content) ≡ None
+    → served s.fast (command_of i.content) (data_of i.content) ≡ a
+    → framed s i lent ≡ judged s i lent a
+framed-new s i lent found asked = framed-by s i lent found ∙ ap (judged s i lent) asked
+
+pub returns-in-Some : goal.returns-in-Some
+returns-in-Some c =
+    let found = sym c.find.ensures ∙ c.in-Some.is in
+    rw (c.sending.ensures, framed-by {k = Some c.in-Some.length})
 
 pub execute-requires : goal.execute-requires
 execute-requires c =
     let code = command_of c.args.content.now in (
-      served-fits c.args.reader.fast code _
-          (judged-as (served c.args.reader.fast code _) c.judge-acceptance.ensures c.in-Accepted.is),
+      served-fits c.args.reader.fast code _ (judged-as (served c.args.reader.fast code _) c.judge.ensures c.in-Ok.is),
       c.requires.1,
     )
 
-pub returns-in-Accepted : goal.returns-in-Accepted
-returns-in-Accepted c =
+pub returns-in-Ok : goal.returns-in-Ok
+returns-in-Ok c =
     let a = c.args in
     let content = a.content.now in
     let found = sym c.find.ensures ∙ c.in_default.is in
-    let asked = rw (take_rest content 2) at
-    (judged-as (served a.reader.fast (command_of content) _) c.judge-acceptance.ensures c.in-Accepted.is)
-    in
-    rw (framed-new {a = Accepted c.in-Accepted.command}) (rw (take_rest content 2) at c.execute.ensures)
+    let asked = rw (take_rest content 2) at (judged-as (served a.reader.fast (command_of content) _) c.judge.ensures c.in-Ok.is) in
+    rw (framed-new {a = Ok c.in-Ok.command}) (rw (take_rest content 2) at c.execute.ensures)
 
-pub returns-in-Faulty : goal.returns-in-Faulty
-returns-in-Faulty c =
-    let n = c.nack_of in
+pub returns-in-Err : goal.returns-in-Err
+returns-in-Err c =
     let a = c.args in
     let content = a.content.now in
     let found = sym c.find.ensures ∙ c.in_default.is in
-    let asked = rw (take_rest content 2) at
-    (judged-as (served a.reader.fast (command_of content) _) c.judge-acceptance.ensures c.in-Faulty.is)
-    in
-    rw (framed-new {a = Faulty c.in-Faulty.fault}, ← n.ensures)
-    (put-answers a.reader (reply_content (identifier_of content) sign (NACK n.result)) a.store.now a.out.now
-    c.sending-in-Faulty.ensures c.write_nack.ensures)
+    let asked = rw (take_rest content 2) at (judged-as (served a.reader.fast (command_of content) _) c.judge.ensures c.in-Err.is) in
+    rw (framed-new {a = Err c.in-Err.fault}, ← c.nack_of.ensures) (c.nacking.ensures a.store.now)

@@ -2,6 +2,7 @@
 -- stops.
 -- Assumes nothing.
 use mathlib.Core.Path.{◌≡◌, ap, subst, subst⁻¹, ◌∙◌}
+use mathlib.Core.Logic.{⊎_elim}
 use mathlib.Core.List.{List}
 use Prim.Native.Nat.{ℕ, ◌+◌, ◌*◌, ◌-◌, ◌≤◌}
 use native.Mathlib.Omega.{arith}
@@ -13,30 +14,25 @@ use Rattle.tape_spec.specs.Limits.{least_room, most_records}
 use Rattle.tape_spec.specs.declared.tape.Receivers.{Receivers}
 use Rattle.tape_spec.specs.declared.tape.Next.{Next}
 use Rattle.tape_spec.specs.declared.tape.Next.TheVariants.{Kind, Body}
+use Rattle.tape_spec.specs.declared.tape.Tape.{Tape}
 use Rattle.tape_spec.specs.Whole.{receiver_on, with_receiver}
 use Rattle.tape_spec.specs.Taping.{tape_of, is_over, ListedOut}
 use Rattle.tape_spec.proofs.Laws.Coming.{coming-after}
 use Rattle.tape_spec.proofs.Laws.Unique.{same-coming}
 use Rattle.tape.specs.Running.{RunHeard, Left}
-use Rattle.tape.proofs.Laws.Chunks.{over, Goes, at-end, out-of-room, at_last, next-kind, next-run, run-some}
+use Rattle.tape.proofs.Laws.Chunks.{Goes, at-end, out-of-room, at_last, next-kind, next-run, run-some}
 use Rattle.tape.proofs.chunk.go.Invariants.{asked}
 use Rattle.tape.proofs.chunk.go.Goals as goal
-use Rattle.tape.proofs.chunk.go.Goals.{
-  After-run-ran,
-  then-loop-taken-test+else-out-written-ge-LEAST_ROOM,
-  else-loop-taken-test,
-  then-loop-taken-test+then-out-written-ge-LEAST_ROOM+in-Bad,
-  then-loop-taken-test+then-out-written-ge-LEAST_ROOM+in-Full,
-}
+use Rattle.tape.proofs.chunk.go.Goals.{After-run-ran}
 
 pub loop-taken-preserved-in-Kind : goal.loop-taken-preserved-in-Kind
 loop-taken-preserved-in-Kind c =
     let l = c.loop-taken in
     let a = c.args in
     let goes : Next → ℕ → Type 0 = λ x n. Goes a.chunk.now (asked a.chunk.now a.tape a.out.now) l.out
-    (tape_of l.records x l.receivers) n l.written in (
+    (tape_of l.tape.records x l.tape.receivers) n l.written in (
       subst⁻¹ (λ (x : Next). goes x (l.taken + 1))
-          (same-coming c.after_kind-next.ensures (coming-after l.records (get_or a.chunk.now l.taken 0)))
+          (same-coming c.after_kind-tape.ensures (coming-after l.tape.records (get_or a.chunk.now l.taken 0)))
           (next-kind _ _ c.if-out-written-ge-LEAST_ROOM.true c.loop-taken-test.true
           (subst (λ (x : Next). goes x l.taken) c.in-Kind.is l.invariant.0)),
       l.invariant.1,
@@ -45,38 +41,38 @@ loop-taken-preserved-in-Kind c =
 
 -- a body is next, and a run was heard of the chunk from there to its end
 module _
-    {chunk out : List ℕ} {all : ListedOut} {next : Next} {r : Receivers} {n taken written : ℕ} {line : Line} {s : Receiver}
-    {after : Left} (goes : Goes chunk all out (tape_of n next r) taken written) (body : next ≡ Body line)
-    (roomy : least_room ≤ length out - written) (on : s ≡ receiver_on line r)
-    (ran : RunHeard line s n (take (length chunk - taken) (drop taken chunk)) out written after) where
-  body-next : Goes chunk all out (tape_of n (Body line) r) taken written
-  body-next = subst (λ (x : Next). Goes chunk all out (tape_of n x r) taken written) body goes
+    {chunk out : List ℕ} {all : ListedOut} {t : Tape} {taken written : ℕ} {line : Line} {s : Receiver}
+    {after : Left} (goes : Goes chunk all out t taken written) (body : t.next ≡ Body line)
+    (roomy : least_room ≤ length out - written) (on : s ≡ receiver_on line t.receivers)
+    (ran : RunHeard line s t.records (take (length chunk - taken) (drop taken chunk)) out written after) where
+  body-next : Goes chunk all out (tape_of t.records (Body line) t.receivers) taken written
+  body-next = subst (λ (x : Next). Goes chunk all out (tape_of t.records x t.receivers) taken written) body goes
 
   -- what was heard, of the receiver that the tape holds and of all that is left
-  heard : RunHeard line (receiver_on line r) n (drop taken chunk) out written after
+  heard : RunHeard line (receiver_on line t.receivers) t.records (drop taken chunk) out written after
   heard =
-      subst (λ (x : List ℕ). RunHeard line (receiver_on line r) n x out written after) (take_rest chunk taken)
-      (subst (λ (x : Receiver). RunHeard line x n (take (length chunk - taken) (drop taken chunk)) out written after) on ran)
+      subst (λ (x : List ℕ). RunHeard line (receiver_on line t.receivers) t.records x out written after) (take_rest chunk taken)
+      (subst (λ (x : Receiver). RunHeard line x t.records (take (length chunk - taken) (drop taken chunk)) out written after) on ran)
 
   -- after it a kind is next again
-  kind-next : Goes chunk all after.out (tape_of (n + after.count) Kind (with_receiver line after.receiver r))
+  kind-next : Goes chunk all after.out (tape_of (t.records + after.count) Kind (with_receiver line after.receiver t.receivers))
       (taken + (2 * after.count - 1)) after.end
   kind-next = next-run _ _ roomy body-next heard
 
   -- some records were taken, not more than are permitted and not beyond the chunk
-  takes : (1 ≤ after.count) × (n + after.count ≤ most_records) × (taken + (2 * after.count - 1) ≤ length chunk)
+  takes : (1 ≤ after.count) × (t.records + after.count ≤ most_records) × (taken + (2 * after.count - 1) ≤ length chunk)
   takes = (run-some _ _ roomy body-next heard, kind-next.few, kind-next.part)
 
 -- the same, where the run has been heard
-ran : (c : After-run-ran) → (1 ≤ c.run-ran.result.count) × (c.loop-taken.records + c.run-ran.result.count ≤ most_records)
+ran : (c : After-run-ran) → (1 ≤ c.run-ran.result.count) × (c.loop-taken.tape.records + c.run-ran.result.count ≤ most_records)
     × (c.loop-taken.taken + (2 * c.run-ran.result.count - 1) ≤ length c.args.chunk.now)
 ran c = takes c.loop-taken.invariant.0 c.in-Body.is c.if-out-written-ge-LEAST_ROOM.true c.receiver_on-receiver.ensures c.run-ran.ensures
 
-pub overflow_cast-records : goal.overflow_cast-records
-overflow_cast-records c = omega (arith, ran (goal.at.overflow_cast-records c).After-run-ran)
+pub overflow_cast-tape : goal.overflow_cast-tape
+overflow_cast-tape c = omega (arith, ran (goal.at.overflow_cast-tape c).After-run-ran)
 
-pub overflow_add-records : goal.overflow_add-records
-overflow_add-records c = omega (arith, ran (goal.at.overflow_add-records c).After-run-ran)
+pub overflow_add-tape : goal.overflow_add-tape
+overflow_add-tape c = omega (arith, ran (goal.at.overflow_add-tape c).After-run-ran)
 
 pub overflow_mul-taken : goal.overflow_mul-taken
 overflow_mul-taken c = omega (arith, ran (goal.at.overflow_mul-taken c).After-run-ran)
@@ -96,20 +92,17 @@ loop-taken-preserved c =
     let a = c.args in
     let q = c.run-ran.result in (
       subst⁻¹ (λ (x : Receivers). Goes a.chunk.now (asked a.chunk.now a.tape a.out.now) c.run-ran.new.out
-          (tape_of (l.records + q.count) Kind x) (l.taken + (2 * q.count - 1)) q.end) c.with_receiver-receivers.ensures
+          (tape_of (l.tape.records + q.count) Kind x) (l.taken + (2 * q.count - 1)) q.end) c.with_receiver-tape.ensures
           (kind-next l.invariant.0 c.in-Body.is c.if-out-written-ge-LEAST_ROOM.true c.receiver_on-receiver.ensures c.run-ran.ensures),
       c.run-ran.auto.out ∙ l.invariant.1,
       c.run-ran.auto.piece ∙ l.invariant.2,
     )
 
--- the four ways out of the loop
-pub returns : goal.returns
-returns c =
-    let l = c.loop-taken in
-    ap (over l.out) c.stopped.ensures
-    ∙ elim c.loop-taken-test.branch [
-      | then-loop-taken-test+else-out-written-ge-LEAST_ROOM w ↦ out-of-room _ _ l.invariant.0 w.if-out-written-ge-LEAST_ROOM.false
-      | else-loop-taken-test w ↦ at-end _ _ l.invariant.0 w.loop-taken-test.false
-      | then-loop-taken-test+then-out-written-ge-LEAST_ROOM+in-Bad w ↦ at_last _ _ l.invariant.0 (ap is_over w.in-Bad.is)
-      | then-loop-taken-test+then-out-written-ge-LEAST_ROOM+in-Full w ↦ at_last _ _ l.invariant.0 (ap is_over w.in-Full.is)
-    ]
+pub returns-after-loop-taken : goal.returns-after-loop-taken
+returns-after-loop-taken c = at-end _ _ c.loop-taken.invariant.0 c.loop-taken-test.false
+
+pub returns-else-out-written-ge-LEAST_ROOM : goal.returns-else-out-written-ge-LEAST_ROOM
+returns-else-out-written-ge-LEAST_ROOM c = out-of-room _ _ c.loop-taken.invariant.0 c.if-out-written-ge-LEAST_ROOM.false
+
+pub returns-in-Bad : goal.returns-in-Bad
+returns-in-Bad c = at_last _ _ c.loop-taken.invariant.0 (⊎_elim (ap is_over) (ap is_over) c.in-Bad.is)

@@ -6,7 +6,7 @@ use mathlib.Core.List.{List}
 use Prim.Native.Nat.{ℕ, ◌-◌}
 use lib.ListN.{length}
 use Rattle.tape_spec.specs.declared.tape.Tape.{Tape}
-use Rattle.tape_spec.specs.Taping.{tape_of, going, ListedOut, text_written}
+use Rattle.tape_spec.specs.Taping.{going, ListedOut, text_written}
 use Rattle.tape.proofs.Laws.Chunks.{Goes}
 use Rattle.tape.proofs.chunk.go.Given as goal
 
@@ -16,8 +16,7 @@ asked chunk t out = text_written (going (length out) t chunk) out
 
 abbrev pub invariant-loop-taken : goal.invariant-loop-taken
 invariant-loop-taken l =
-    Goes l.chunk (asked l.chunk (tape_of l.initial.records l.initial.next l.initial.receivers) l.initial.out) l.out
-    (tape_of l.records l.next l.receivers) l.taken l.written
+    Goes l.chunk (asked l.chunk l.initial.tape l.initial.out) l.out l.tape l.taken l.written
     × (length l.out ≡ length l.initial.out) × (length l.piece ≡ 128)
 
 abbrev pub decreases-loop-taken : goal.decreases-loop-taken

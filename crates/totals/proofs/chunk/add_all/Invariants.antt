@@ -2,26 +2,21 @@
 -- Assumes nothing.
 use mathlib.Core.Path.{◌≡◌}
 use mathlib.Core.List.{List}
-use Prim.Native.Nat.{ℕ, ◌-◌, ◌≤◌}
-use lib.ListN.{length, drop}
+use Prim.Native.Nat.{ℕ}
+use Rattle.std.specs.Slice.Iter.{chunks_rest, chunks_size}
 use Rattle.totals_spec.specs.declared.totals.Totals.{Totals}
 use Rattle.totals_spec.specs.Adding.{totals_after}
 use Rattle.totals_spec.proofs.Laws.Adding.{Fine}
 use Rattle.totals.proofs.chunk.add_all.Given as goal
 
--- the room that is lent for either line's bytes
-abbrev pub most_piece : ℕ
-most_piece = 1024
-
--- after some bytes of the chunk
-pub record AddedSoFar (chunk : List ℕ) (first : Totals) (totals : Totals) (taken : ℕ) : Type 0 where
-  pub part : taken ≤ length chunk
+-- with this left of the chunk
+pub record AddedSoFar (chunk : List ℕ) (first : Totals) (left : List ℕ) (totals : Totals) : Type 0 where
   pub fine : Fine totals
-  pub same : totals_after totals (drop taken chunk) ≡ totals_after first chunk
+  pub same : totals_after totals left ≡ totals_after first chunk
 
-abbrev pub invariant-loop-taken : goal.invariant-loop-taken
-invariant-loop-taken l =
-    AddedSoFar l.chunk l.initial.totals l.totals l.taken × (length l.point ≡ most_piece) × (length l.addressed ≡ most_piece)
-
-abbrev pub decreases-loop-taken : goal.decreases-loop-taken
-decreases-loop-taken l = length l.chunk - l.taken
+abbrev pub invariant-loop-part : goal.invariant-loop-part
+invariant-loop-part l =
+    goal.iterator-loop-part.can_next l.part-iterator
+    × goal.iterator-loop-part.is_finite l.part-iterator
+    × (chunks_size l.part-iterator ≡ 2048)
+    × AddedSoFar l.chunk l.fn.totals (chunks_rest l.part-iterator) l.totals

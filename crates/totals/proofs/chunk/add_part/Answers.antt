@@ -1,6 +1,6 @@
 -- `chunk::add_part`: each line's receiver hears what was split off for it, which are the line's bytes in the part's records.
 -- Assumes nothing.
-use mathlib.Core.Path.{◌≡◌, ap, ◌∙◌}
+use mathlib.Core.Path.{◌≡◌, ap}
 use mathlib.Core.Bool.{false}
 use Prim.Native.Nat.{◌≤◌}
 use native.Mathlib.Omega.{arith}
@@ -31,30 +31,29 @@ heard-few : (c : After-split-parted)
 heard-few c =
     let tape = c.args.totals.tape in
     let few = pieces-few tape.records tape.next c.args.part.now (fine c).few (permitted (fine c)) in
-    let split = c.split-parted.ensures.addressed_after in
+    let split = c.split-parted.ensures.heard in
     (omega (arith, ap (λ (p : Pieces). length p.point) split, few.0), omega (arith, ap (λ (p : Pieces). length p.addressed) split, few.1))
 
-pub split-parted-requires-clause-most_records_value : goal.split-parted-requires-clause-most_records_value
-split-parted-requires-clause-most_records_value c = permitted (fine-is c.args.totals (omega arith) c.requires.totals_value)
+pub split-parted-requires-clause-permitted : goal.split-parted-requires-clause-permitted
+split-parted-requires-clause-permitted c = permitted (fine-is c.args.totals (omega arith) c.requires.totals_value)
 
-pub hear-on_point-requires-clause-sums_value : goal.hear-on_point-requires-clause-sums_value
-hear-on_point-requires-clause-sums_value c = small (goal.at.hear-on_point-requires-clause-sums_value c).After-split-parted Point
+pub hear-on_point-requires-clause-counted : goal.hear-on_point-requires-clause-counted
+hear-on_point-requires-clause-counted c = small (goal.at.hear-on_point-requires-clause-counted c).After-split-parted Point
 
-pub hear-on_point-requires-clause-piece_len_bound : goal.hear-on_point-requires-clause-piece_len_bound
-hear-on_point-requires-clause-piece_len_bound c = (heard-few (goal.at.hear-on_point-requires-clause-piece_len_bound c).After-split-parted).0
+pub hear-on_point-requires-clause-short : goal.hear-on_point-requires-clause-short
+hear-on_point-requires-clause-short c = (heard-few (goal.at.hear-on_point-requires-clause-short c).After-split-parted).0
 
-pub hear-on_addressed-requires-clause-receiver_value : goal.hear-on_addressed-requires-clause-receiver_value
-hear-on_addressed-requires-clause-receiver_value c = on-good (fine (goal.at.hear-on_addressed-requires-clause-receiver_value c).After-split-parted) Addressed
+pub hear-on_addressed-requires-clause-good : goal.hear-on_addressed-requires-clause-good
+hear-on_addressed-requires-clause-good c = on-good (fine (goal.at.hear-on_addressed-requires-clause-good c).After-split-parted) Addressed
 
-pub hear-on_addressed-requires-clause-sums_value : goal.hear-on_addressed-requires-clause-sums_value
-hear-on_addressed-requires-clause-sums_value c = small (goal.at.hear-on_addressed-requires-clause-sums_value c).After-split-parted Addressed
+pub hear-on_addressed-requires-clause-counted : goal.hear-on_addressed-requires-clause-counted
+hear-on_addressed-requires-clause-counted c = small (goal.at.hear-on_addressed-requires-clause-counted c).After-split-parted Addressed
 
-pub hear-on_addressed-requires-clause-piece_len_bound : goal.hear-on_addressed-requires-clause-piece_len_bound
-hear-on_addressed-requires-clause-piece_len_bound c = (heard-few (goal.at.hear-on_addressed-requires-clause-piece_len_bound c).After-split-parted).1
+pub hear-on_addressed-requires-clause-short : goal.hear-on_addressed-requires-clause-short
+hear-on_addressed-requires-clause-short c = (heard-few (goal.at.hear-on_addressed-requires-clause-short c).After-split-parted).1
 
 pub returns : goal.returns
 returns c =
     let s = c.split-parted in
-    c.joined.ensures
-    ∙ joined_is c.args.totals c.args.part.now (parted_in s.result s.new.point s.new.addressed)
-    s.ensures.addressed_after c.hear-on_point.ensures c.hear-on_addressed.ensures
+    joined_is c.args.totals c.args.part.now (parted_in s.result s.new.point s.new.addressed)
+    s.ensures.heard c.hear-on_point.ensures c.hear-on_addressed.ensures

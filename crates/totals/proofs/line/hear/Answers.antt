@@ -3,23 +3,22 @@
 use mathlib.Core.Path.{◌≡◌, refl, sym, ap, subst⁻¹, ◌∙◌}
 use mathlib.Core.Bool.{true, false, not}
 use mathlib.Core.List.{List, [], ◌∷◌}
-use Prim.Native.Nat.{ℕ, ◌+◌, ◌≤◌, ◌<◌, zero-le}
+use Prim.Native.Nat.{ℕ, ◌+◌, ◌<◌, zero-le}
 use native.Mathlib.Nat.{add-zero}
 use native.Mathlib.Numerals.{add-one}
 use native.Mathlib.Omega.{arith}
 use borrow.Author.Tests.{not-false}
 use lib.Dec.{ltb}
 use lib.ListN.{length, take, get_or, set}
-use lib.Seq.{length-take-le, take-suc-set}
-use Rattle.ground.specs.Refusals.{Tally, tally, counted}
+use lib.Seq.{take-suc-set}
+use Rattle.std.proofs.Common.{rules}
+use Rattle.std.specs.Prelude.{Some}
 use Rattle.ground.proofs.Laws.Choice.{or-none}
 use Rattle.wire_spec.specs.Limits.{most_content}
 use Rattle.wire_spec.specs.Stuffing.{specials}
-use Rattle.wire_spec.specs.Image.{image_length}
 use Rattle.wire_spec.proofs.Laws.Stuffing.{specials-append, specials-plain, specials-special}
-use Rattle.wire_spec.proofs.Laws.Writing.{length-answered}
 use Rattle.link_spec.specs.declared.event.Event.{Event}
-use Rattle.link_spec.specs.declared.event.Event.TheVariants.{None, Frame, Check, Short, Long, Pair, Addr}
+use Rattle.link_spec.specs.declared.event.Event.TheVariants.{Frame, Check, Short, Long, Pair, Addr}
 use Rattle.link_spec.specs.declared.event.Verdict.{Verdict}
 use Rattle.link_spec.specs.declared.station.Station.{Station}
 use Rattle.link_spec.specs.declared.receiver.Phase.{Phase}
@@ -40,21 +39,7 @@ use Rattle.totals_spec.specs.Adding.{account, after_bytes}
 use Rattle.totals_spec.proofs.Laws.Counting.{sums-within}
 use Rattle.totals.proofs.Laws.Hearing.{Goes, go-skip, go-keep, go-quiet, go-tell, go-stop, specials-few, go-frame, at-end}
 use Rattle.totals.proofs.line.hear.Goals as goal
-use Rattle.totals.proofs.line.hear.Goals.{in-Outside, in-Inside, in-Pending, After-image_length-begun, Joined-phase, In-Keep, After-at_stop-verdict}
-
--- ---- before the loop
-
--- the image of the content so far
-begun : (c : After-image_length-begun)
-    → c.image_length-begun.result.count ≡ 2 + c.args.receiver.count + specials (take c.args.receiver.count c.args.receiver.content)
-unfolding image_length
-begun c =
-    let r = c.args.receiver in
-    let k = take r.count r.content in
-    let within : r.count ≤ most_content = good-count r c.requires.receiver_value in
-    let whole : length k ≡ r.count = length-take-le r.count r.content (omega arith) in
-    let is : tally c.image_length-begun.result ≡ counted (image_length k) = c.image_length-begun.ensures ∙ length-answered k (omega arith) in
-    omega (arith, ap (λ (t : Tally). t.count) is)
+use Rattle.totals.proofs.line.hear.Goals.{in-Outside, in-Inside, in-Pending, Joined-phase, In-Keep, After-at_stop}
 
 -- ---- the turn
 
@@ -70,9 +55,8 @@ kept-specials content count b n sized fits is =
     ∙ sym (specials-append (take count content) (b ∷ []))
     ∙ ap specials (sym (ap (λ (k : ℕ). take k (set content count b)) (add-one count) ∙ take-suc-set content count b (omega arith)))
 
--- the arm of the other events
-other-event : (e : Event) → (e ≡ Frame → ⊥) → is_frame (named e) ≡ false
-other-event None h = refl
+-- an event that is no FRAME
+other-event : (e : Event) → (e ≡ Frame → ⊥) → is_frame (named (Some e)) ≡ false
 other-event Frame h = absurd (h refl)
 other-event Check h = refl
 other-event Short h = refl
@@ -86,7 +70,7 @@ other-event Addr h = refl
 fine : (c : Joined-phase) → has_address c.args.receiver.station ≡ true
 fine c =
     let r = c.args.receiver in
-    not-false (has_address r.station) (or-none (ltb most_content r.count) (not (has_address r.station)) c.requires.receiver_value).1
+    not-false (has_address r.station) (or-none (ltb most_content r.count) (not (has_address r.station)) c.requires.good).1
 
 -- what is left of the piece gives what the whole piece gives
 swept : (c : Joined-phase)
@@ -107,25 +91,18 @@ room c =
     (turn-sound c.args.receiver.station c.loop-taken.phase c.match-phase.count (get_or c.args.piece.now c.match-phase.taken 0))
 
 -- what the stop byte tells
-told : (c : After-at_stop-verdict) → c.at_stop-verdict.result ≡ verdict (check_on c.args.receiver.station) (take c.match-phase.count c.match-phase.content)
-told c = same-ruling {r = c.at_stop-verdict.result} {s = verdict (check_on c.args.receiver.station) (take c.match-phase.count c.match-phase.content)} c.at_stop-verdict.ensures refl
+told : (c : After-at_stop) → c.at_stop.result ≡ verdict (check_on c.args.receiver.station) (take c.match-phase.count c.match-phase.content)
+told c = same-ruling {r = c.at_stop.result} {s = verdict (check_on c.args.receiver.station) (take c.match-phase.count c.match-phase.content)} c.at_stop.ensures refl
 
 -- ---- the goals
 
-pub overflow_sub-specials : goal.overflow_sub-specials
-overflow_sub-specials c = let e = begun (goal.at.overflow_sub-specials c).After-image_length-begun in omega (arith, e)
-
-pub overflow_sub-specials-2 : goal.overflow_sub-specials-2
-overflow_sub-specials-2 c = let e = begun (goal.at.overflow_sub-specials-2 c).After-image_length-begun in omega (arith, e)
-
 pub loop-taken-init : goal.loop-taken-init
 loop-taken-init c =
-    let e = begun (goal.at.loop-taken-init c).After-image_length-begun in
     record {
       part = zero-le;
-      fit = record { on = refl; sized = omega arith; within = good-count c.args.receiver c.requires.receiver_value };
-      counted = omega (arith, e);
-      within = rw (add-zero c.args.sums.heard) (sums-within most_records c.args.sums c.requires.sums_value);
+      fit = record { on = refl; sized = omega arith; within = good-count c.args.receiver c.requires.good };
+      counted = c.count_specials-specials.ensures;
+      within = rw (add-zero c.args.sums.heard) (sums-within most_records c.args.sums c.requires.counted);
       same = rw (add-zero c.args.sums.heard) refl;
     }
 
@@ -175,34 +152,36 @@ loop-taken-preserved-else-byte-ge-START c =
     (g.counted ∙ sym (add-zero _) ∙ kept-specials _ _ _ 0 g.fit.sized (room way.In-Keep) (specials-plain _ [] c.if-byte-ge-START.false))
 
 -- what a FRAME adds, and what it is added to, are far below 2^64
-pub overflow_add-inside-in-Frame : goal.overflow_add-inside-in-Frame
-overflow_add-inside-in-Frame c =
-    let way = goal.at.overflow_add-inside-in-Frame c in
+pub overflow_add-inside-then-eq : goal.overflow_add-inside-then-eq
+overflow_add-inside-then-eq c =
+    let way = goal.at.overflow_add-inside-then-eq c in
     let g = swept way.Joined-phase in
     record { fits = omega (arith, specials-few _ _ _ _ (fine way.Joined-phase) g c.if-taken-piece.true, g.fit.within) }
 
-pub overflow_add-inside-in-Frame-2 : goal.overflow_add-inside-in-Frame-2
-overflow_add-inside-in-Frame-2 c =
-    let way = goal.at.overflow_add-inside-in-Frame-2 c in
+pub overflow_add-inside-then-eq-2 : goal.overflow_add-inside-then-eq-2
+overflow_add-inside-then-eq-2 c =
+    let way = goal.at.overflow_add-inside-then-eq-2 c in
     let g = swept way.Joined-phase in
     record { fits = omega (arith, specials-few _ _ _ _ (fine way.Joined-phase) g c.if-taken-piece.true, g.fit.within, g.part, g.within.inside) }
 
-pub loop-taken-preserved-in-Frame : goal.loop-taken-preserved-in-Frame
-loop-taken-preserved-in-Frame c =
-    let way = goal.at.loop-taken-preserved-in-Frame c in
+pub loop-taken-preserved-then-eq : goal.loop-taken-preserved-then-eq
+loop-taken-preserved-then-eq c =
+    let way = goal.at.loop-taken-preserved-then-eq c in
     go-frame _ _ _ _ (fine way.Joined-phase) (swept way.Joined-phase) c.if-taken-piece.true (turn_is Stop _ _ _ _ c.in-Stop.ensures)
-    (sym (ap named (sym (ap (λ (v : Verdict). v.event) (told way.After-at_stop-verdict)) ∙ c.in-Frame.is)))
+    (let is : c.at_stop.result.event ≡ Frame = search rules in
+    sym (ap (λ (v : Verdict). named (Some v.event)) (sym (told way.After-at_stop)) ∙ ap (λ (e : Event). named (Some e)) is))
 
-pub loop-taken-preserved-in_default : goal.loop-taken-preserved-in_default
-loop-taken-preserved-in_default c =
-    let way = goal.at.loop-taken-preserved-in_default c in
+pub loop-taken-preserved-else-eq : goal.loop-taken-preserved-else-eq
+loop-taken-preserved-else-eq c =
+    let way = goal.at.loop-taken-preserved-else-eq c in
     go-stop _ _ _ _ (fine way.Joined-phase) (swept way.Joined-phase) c.if-taken-piece.true (turn_is Stop _ _ _ _ c.in-Stop.ensures)
-    (ap (λ (v : Verdict). is_frame (named v.event)) (sym (told way.After-at_stop-verdict)) ∙ other-event c.at_stop-verdict.result.event c.in_default.not-Frame)
+    (ap (λ (v : Verdict). is_frame (named (Some v.event))) (sym (told way.After-at_stop))
+    ∙ other-event c.at_stop.result.event (λ (is : c.at_stop.result.event ≡ Frame). search rules))
 
 pub loop-taken-preserved-in-Tell : goal.loop-taken-preserved-in-Tell
 loop-taken-preserved-in-Tell c =
     let way = goal.at.loop-taken-preserved-in-Tell c in
-    go-tell _ _ _ _ (fine way.Joined-phase) (swept way.Joined-phase) c.if-taken-piece.true (turn_is (Tell c.in-Tell._event) _ _ _ _ c.in-Tell.ensures)
+    go-tell _ _ _ _ (fine way.Joined-phase) (swept way.Joined-phase) c.if-taken-piece.true (turn_is (Tell _) _ _ _ _ c.in-Tell.ensures)
 
 pub loop-taken-preserved : goal.loop-taken-preserved
 loop-taken-preserved c = swept (goal.at.loop-taken-preserved c).Joined-phase

@@ -1,8 +1,8 @@
 -- `split::split`: the arm says which byte is next, and a body is the first of its line, before what `split_records` lays after it.
 -- Assumes nothing.
 use mathlib.Core.Path.{refl, ap, ◌∙◌}
+use mathlib.Core.Logic.{⊎_elim}
 use native.Mathlib.Omega.{arith}
-use lib.ListN.{get_or}
 use lib.Seq.{take-suc-set}
 use Rattle.tape_spec.specs.declared.tape.Line.TheVariants.{Point, Addressed}
 use Rattle.tape_spec.specs.declared.tape.Next.TheVariants.{Body}
@@ -11,37 +11,30 @@ use Rattle.totals_spec.proofs.Laws.Chunks.{chunk-over}
 use Rattle.totals.proofs.Laws.Splitting.{none_left, none-heard, after-body}
 use Rattle.totals.proofs.split.split.Goals as goal
 
-pub returns-then-part-eq0-clause-addressed_after : goal.returns-then-part-eq0-clause-addressed_after
-returns-then-part-eq0-clause-addressed_after c =
+pub returns-in_default-clause-heard : goal.returns-in_default-clause-heard
+returns-in_default-clause-heard c =
     let a = c.args in
-    let e = c.none_heard.ensures in
-    (none-heard a.records a.next a.part.now a.point.now a.addressed.now c.none_heard.result
-    (none_left a.records a.next a.part.now 0 (omega arith)) (e.point_value, (e.addressed_value, e.result_value))).1.1
+    none-heard a.records a.next a.part.now a.point.now a.addressed.now
+    (none_left a.records a.next a.part.now 0 (omega (arith, c.in_default.ensures.cases)))
 
-pub returns-in-Point-clause-addressed_after : goal.returns-in-Point-clause-addressed_after
-returns-in-Point-clause-addressed_after c =
+pub returns-in-Body-Point-clause-heard : goal.returns-in-Body-Point-clause-heard
+returns-in-Body-Point-clause-heard c =
     let a = c.args in
-    let b = get_or a.part.now 0 0 in
-    c.split_records-in-Point.ensures.addressed_after
-    ∙ after-body Point a.records a.part.now (omega arith) (c.in-Body.is ∙ ap Body c.in-Point.is) (take-suc-set a.point.now 0 b (omega arith)) refl
+    let (begins, long) = c.in-Some.ensures.cases in
+    c.split_records-in-Body-Point.ensures.heard
+    ∙ after-body Point a.records _ _ begins (c.in-Body-Point.is ∙ ap Body (rw c.in-Body-Point.is at c.in-Body-Point.field-0-is))
+    (take-suc-set a.point.now 0 _ (omega (arith, long))) refl
 
-pub returns-in-Addressed-clause-addressed_after : goal.returns-in-Addressed-clause-addressed_after
-returns-in-Addressed-clause-addressed_after c =
+pub returns-in-Body-Addressed-clause-heard : goal.returns-in-Body-Addressed-clause-heard
+returns-in-Body-Addressed-clause-heard c =
     let a = c.args in
-    let b = get_or a.part.now 0 0 in
-    c.split_records-in-Addressed.ensures.addressed_after
-    ∙ after-body Addressed a.records a.part.now (omega arith) (c.in-Body.is ∙ ap Body c.in-Addressed.is) refl (take-suc-set a.addressed.now 0 b (omega arith))
+    let (begins, long) = c.in-Some.ensures.cases in
+    c.split_records-in-Body-Addressed.ensures.heard
+    ∙ after-body Addressed a.records _ _ begins (c.in-Body-Addressed.is ∙ ap Body (rw c.in-Body-Addressed.is at c.in-Body-Addressed.field-0-is)) refl
+    (take-suc-set a.addressed.now 0 _ (omega (arith, long)))
 
-pub returns-in-Bad-clause-addressed_after : goal.returns-in-Bad-clause-addressed_after
-returns-in-Bad-clause-addressed_after c =
+pub returns-in-Bad-clause-heard : goal.returns-in-Bad-clause-heard
+returns-in-Bad-clause-heard c =
     let a = c.args in
-    let e = c.none_heard-in-Bad.ensures in
-    (none-heard a.records a.next a.part.now a.point.now a.addressed.now c.none_heard-in-Bad.result
-    (chunk-over a.part.now a.records a.next (ap is_over c.in-Bad.is)) (e.point_value, (e.addressed_value, e.result_value))).1.1
-
-pub returns-in-Full-clause-addressed_after : goal.returns-in-Full-clause-addressed_after
-returns-in-Full-clause-addressed_after c =
-    let a = c.args in
-    let e = c.none_heard-in-Full.ensures in
-    (none-heard a.records a.next a.part.now a.point.now a.addressed.now c.none_heard-in-Full.result
-    (chunk-over a.part.now a.records a.next (ap is_over c.in-Full.is)) (e.point_value, (e.addressed_value, e.result_value))).1.1
+    none-heard a.records a.next a.part.now a.point.now a.addressed.now
+    (chunk-over a.part.now a.records a.next (⊎_elim (ap is_over) (ap is_over) c.in-Bad.is))

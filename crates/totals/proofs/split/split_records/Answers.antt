@@ -37,8 +37,8 @@ loop-count-preserved c =
     ]
 
 -- the kind that is left: nothing stands after it, no record more is permitted, or it is unknown
-pub returns-then-count-rest-clause-addressed_after : goal.returns-then-count-rest-clause-addressed_after
-returns-then-count-rest-clause-addressed_after c =
+pub returns-then-count-rest-clause-heard : goal.returns-then-count-rest-clause-heard
+returns-then-count-rest-clause-heard c =
     let l = c.loop-count in
     let n = c.args.records + l.count in
     let k = get_or c.args.rest.now (2 * l.count) 0 in
@@ -57,5 +57,5 @@ returns-then-count-rest-clause-addressed_after c =
     (same-coming c.after_kind-next.ensures (coming-after n k))
     ∙ at-kind _ _ _ l.invariant.0 c.if-count-rest.true no-further
 
-pub returns-else-count-rest-clause-addressed_after : goal.returns-else-count-rest-clause-addressed_after
-returns-else-count-rest-clause-addressed_after c = at-end _ _ _ c.loop-count.invariant.0 c.if-count-rest.false
+pub returns-else-count-rest-clause-heard : goal.returns-else-count-rest-clause-heard
+returns-else-count-rest-clause-heard c = at-end _ _ _ c.loop-count.invariant.0 c.if-count-rest.false

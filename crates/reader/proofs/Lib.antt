@@ -1,2 +1,0 @@
--- The laws of this library, which stand for no one function.
-pub mod Laws
