@@ -8,11 +8,10 @@ use crate::table::TABLE;
 pub fn residue(bytes: &[u8]) -> u16
     ensures { result ≡ residue_of bytes.now }
 {
-    let table = TABLE;
     let mut register: u16 = 0xFFFF;
     for &byte in bytes {
         let k = ((byte as u16 ^ register) % 256) as usize;
-        register = table[k] ^ register / 256;
+        register = TABLE[k] ^ register / 256;
     }
     register
 }

@@ -3,16 +3,17 @@ ghost use Rattle.std.specs.Prelude.{◌≤◌, length};
 ghost use Rattle.link_spec.specs.Limits.{most_data};
 ghost use Rattle.link_spec.specs.Frame.{point_content};
 ghost use Rattle.request_spec.specs.Limits.{most_antenna};
-ghost use Rattle.request_spec.specs.Replies.{NACK, DATA, sign};
+ghost use Rattle.request_spec.specs.Replies.{NACK, sign};
 ghost use Rattle.reader_spec.specs.Limits.{room};
 ghost use Rattle.reader_spec.specs.Parameters.{value_of};
 ghost use Rattle.reader_spec.specs.Replies.{reply_content, reply_to};
 ghost use Rattle.reader.specs.Replies.{Fills};
 
 use crate::given::{Device, Request};
+use crate::values::value;
 use link::write_point;
 use reader_spec::Parameters;
-use request::{ACK, Command, Parameter, SIGN, is_code};
+use request::{ACK, Command, SIGN, is_code};
 
 // The NACKs to a wrong check, and for no card.
 pub(crate) const WRONG_CHECK: u8 = 1;
@@ -49,7 +50,12 @@ pub(crate) fn write_reply(
     match command {
         Command::Header => write(request.identifier, request.code, &device.header, out),
         Command::Write(_) => write(request.identifier, SIGN, &[ACK], out),
-        Command::Read(parameter) => write_value(parameters, request, parameter, out),
+        Command::Read(parameter) => write(
+            request.identifier,
+            request.code,
+            value(&parameters, parameter),
+            out,
+        ),
         Command::Card(card) => {
             if is_code(card, device.antenna.len()) {
                 write(request.identifier, request.code, device.antenna, out)
@@ -57,21 +63,5 @@ pub(crate) fn write_reply(
                 write_nack(request.identifier, NO_CARD, out)
             }
         }
-    }
-}
-
-fn write_value(
-    parameters: Parameters,
-    request: Request,
-    parameter: Parameter,
-    out: &mut [u8],
-) -> usize
-    requires { room ≤ length out.old }
-    ensures { Fills result out.new (reply_content request.entry.identifier request.entry.code (DATA (value_of parameters parameter))) out.old }
-{
-    match parameter {
-        Parameter::Speed => write(request.identifier, request.code, &[parameters.speed], out),
-        Parameter::Settings => write(request.identifier, request.code, &parameters.settings, out),
-        Parameter::Cell => write(request.identifier, request.code, &parameters.cell, out),
     }
 }

@@ -4,7 +4,6 @@ ghost use Rattle.link_spec.specs.Receiving.{bad_receiver};
 ghost use Rattle.tape_spec.specs.Limits.{most_records};
 ghost use Rattle.tape.specs.Running.{Gathered, left, run_left, running, RunHeard as HeardOf};
 
-use ground::least;
 use link::{Receiver, receive};
 use reel::kind_of;
 use rows::put_heard;
@@ -36,7 +35,7 @@ pub(crate) fn run(
     requires at_in_bounds { at ≤ length out.old }
     ensures { HeardOf line receiver records chunk.now out.old at (left result out.new) }
 {
-    let most = least((MOST_RECORDS - records) as usize, piece.len());
+    let most = piece.len().min((MOST_RECORDS - records) as usize);
     let count = gather(kind_of(line), most, chunk, piece);
     hear(line, receiver, records, &piece[..count], out, at)
 }
@@ -50,7 +49,7 @@ fn gather(kind: u8, most: usize, chunk: &[u8], piece: &mut [u8]) -> usize
     ensures gathered { Gathered kind most chunk.now (take result piece.new) }
 {
     // a body stands at every other place, from the first on
-    let limit = least(most, chunk.len() / 2 + chunk.len() % 2);
+    let limit = most.min(chunk.len().div_ceil(2));
     piece[0] = chunk[0];
     let mut count: usize = 1;
     while count < limit && chunk[2 * count - 1] == kind {

@@ -95,27 +95,13 @@ front-short content few = rw (lt-leb least_front (length content) few)
 front_long : (content : List ℕ) → most_front < length content → is_front content ≡ false
 front_long content many = rw (lt-leb (length content) most_front many, and-false (leb least_front (length content)))
 
+carries-front : {event : Name} → CarriesContent event → (content : List ℕ) → fits (asking event) content ≡ is_front content
+carries-front frame content = refl
+carries-front check content = refl
+
 unfit-is : (i : Input) → Unfit i → fits (asking i.event) i.content ≡ false
-unfit-is i (short asks few) = of i.event asks
-  where
-    of : (event : Name) → CarriesContent event → fits (asking event) i.content ≡ false
-    of FRAME frame = front-short i.content few
-    of CHECK check = front-short i.content few
-    of NONE c = elim c [ ]
-    of SHORT c = elim c [ ]
-    of LONG c = elim c [ ]
-    of PAIR c = elim c [ ]
-    of ADDR c = elim c [ ]
-unfit-is i (long asks many) = of i.event asks
-  where
-    of : (event : Name) → CarriesContent event → fits (asking event) i.content ≡ false
-    of FRAME frame = front_long i.content many
-    of CHECK check = front_long i.content many
-    of NONE c = elim c [ ]
-    of SHORT c = elim c [ ]
-    of LONG c = elim c [ ]
-    of PAIR c = elim c [ ]
-    of ADDR c = elim c [ ]
+unfit-is i (short asks few) = carries-front asks i.content ∙ front-short i.content few
+unfit-is i (long asks many) = carries-front asks i.content ∙ front_long i.content many
 
 unfit-row : (i : Input) → fits (asking i.event) i.content ≡ false → Unfit i
 unfit-row i = of i.event refl
