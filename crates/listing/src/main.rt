@@ -4,6 +4,7 @@
 ghost use Rattle.std.specs.Prelude.{◌≤◌, IfOk};
 ghost use Rattle.tape_spec.specs.Limits.{most_records};
 
+use ground::Refusal;
 use progress::Progress;
 use std::io::{Error, Read, Write};
 use std::process::ExitCode;
@@ -19,6 +20,12 @@ enum Failure {
     Read(Error),
     Write(Error),
     Refused,
+}
+
+impl From<Refusal> for Failure {
+    fn from(_refusal: Refusal) -> Failure {
+        Failure::Refused
+    }
 }
 
 // Says what failed, and why.
@@ -38,13 +45,18 @@ fn print(rt: &HostRuntime, text: &[u8]) -> Result<(), Failure> {
 }
 
 // Lists a chunk that is read, up to where the tape is over; `text` is where the rows are put together.
-fn list_chunk(rt: &HostRuntime, mut tape: Tape, chunk: &[u8], text: &mut [u8]) -> Result<Tape, Failure>
+fn list_chunk(
+    rt: &HostRuntime,
+    mut tape: Tape,
+    chunk: &[u8],
+    text: &mut [u8],
+) -> Result<Tape, Failure>
     requires { tape.records ≤ most_records }
     ensures { IfOk result (λ t. t.records ≤ most_records) }
 {
     let mut taken = 0;
     while taken < chunk.len() && !is_over(tape) {
-        let listed = list(tape, &chunk[taken..], text).map_err(|_| Failure::Refused)?;
+        let listed = list(tape, &chunk[taken..], text)?;
         print(rt, &text[..listed.written])?;
         tape = listed.tape;
         taken += listed.taken;
@@ -56,9 +68,11 @@ fn list_chunk(rt: &HostRuntime, mut tape: Tape, chunk: &[u8], text: &mut [u8]) -
 const MOST_BLOCKS: u64 = 0x2_0000_0000;
 
 // Lists all blocks of a tape; `text` is where the rows are put together.
-fn list_blocks(rt: &HostRuntime, progress: &mut Progress, text: &mut [u8]) -> Result<Tape, Failure>
-    ensures { IfOk result (λ t. t.records ≤ most_records) }
-{
+fn list_blocks(
+    rt: &HostRuntime,
+    progress: &mut Progress,
+    text: &mut [u8],
+) -> Result<Tape, Failure> {
     let mut block = [0u8; BLOCK];
     let mut tape = fresh_tape();
     for _ in 0..MOST_BLOCKS {
@@ -77,14 +91,14 @@ fn list_tape(rt: &HostRuntime, text: &mut [u8]) -> Result<(), Failure> {
     let mut progress = begin(rt, !is_terminal(rt, Stream::Output));
     let listed = list_blocks(rt, &mut progress, text);
     hide(rt, progress);
-    let end = write_last(listed?, text).map_err(|_| Failure::Refused)?;
+    let end = write_last(listed?, text)?;
     print(rt, &text[..end])
 }
 
 // Lists standard input.
 fn run(rt: &HostRuntime) -> Result<(), Failure> {
     let mut text = [0u8; BLOCK];
-    let end = write_header(&mut text).map_err(|_| Failure::Refused)?;
+    let end = write_header(&mut text)?;
     print(rt, &text[..end])?;
     list_tape(rt, &mut text)
 }
