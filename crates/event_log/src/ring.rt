@@ -1,8 +1,8 @@
 // The ring of bodies: an empty log, a new entry by value, and the oldest that waits.
-ghost use Rattle.std.specs.Prelude.{◌≡◌, false, cond, eqb, ◌+◌, ◌%◌, ◌*◌, ◌≤◌, ◌<◌};
+ghost use Rattle.std.specs.Prelude.{◌≡◌, false, cond, eqb, ◌≤◌, ◌<◌};
 ghost use Rattle.request_spec.specs.Header.{low_first};
-ghost use Rattle.event_log_spec.specs.Limits.{most_held, body_length};
-ghost use Rattle.event_log_spec.specs.Log.{empty_log, bad_log, identifier_before, oldest_waiting};
+ghost use Rattle.event_log_spec.specs.Limits.{most_held};
+ghost use Rattle.event_log_spec.specs.Log.{empty_log, bad_log, body_start, place_of, identifier_before, oldest_waiting};
 ghost use Rattle.event_log_spec.specs.Appending.{one_more, with_entry, appended_as, appended_to};
 
 use event_log_spec::{BODY_LENGTH, ENTRY_LENGTH, Log, MOST_HELD, RING_LENGTH};
@@ -45,11 +45,11 @@ fn with_entry(log: Log, body: [u8; BODY_LENGTH]) -> Log
     ensures { result ≡ with_entry log body }
 {
     let mut bodies = log.bodies;
-    let at = body_start(log.start, log.held);
+    let at = body_start(&log, log.held);
     bodies[at..at + BODY_LENGTH].copy_from_slice(&body);
     Log {
         bodies,
-        start: start_after(log.start, log.held),
+        start: start_after(&log),
         held: one_more(log.held),
         waiting: one_more(log.waiting),
         next: log.next.wrapping_add(1),
@@ -57,22 +57,22 @@ fn with_entry(log: Log, body: [u8; BODY_LENGTH]) -> Log
 }
 
 // Where the body begins of the entry than which so many held ones are older.
-fn body_start(start: usize, older: usize) -> usize
-    requires { (start < most_held) × (older ≤ most_held) }
-    ensures { result ≡ body_length * ((start + older) % most_held) }
+fn body_start(log: &Log, older: usize) -> usize
+    requires { (log.now.start < most_held) × (older ≤ most_held) }
+    ensures { result ≡ body_start (place_of log.now older) }
 {
-    BODY_LENGTH * ((start + older) % MOST_HELD)
+    BODY_LENGTH * ((log.start + older) % MOST_HELD)
 }
 
 // The place of the oldest after one more: in a full log the next place.
-fn start_after(start: usize, held: usize) -> usize
-    requires { start < most_held }
-    ensures { result ≡ cond (eqb held most_held) ((start + 1) % most_held) start }
+fn start_after(log: &Log) -> usize
+    requires { log.now.start < most_held }
+    ensures { result ≡ cond (eqb log.now.held most_held) (place_of log.now 1) log.now.start }
 {
-    if held == MOST_HELD {
-        (start + 1) % MOST_HELD
+    if log.held == MOST_HELD {
+        (log.start + 1) % MOST_HELD
     } else {
-        start
+        log.start
     }
 }
 
@@ -89,7 +89,7 @@ pub(crate) fn oldest_waiting(log: &Log) -> [u8; ENTRY_LENGTH]
     requires { bad_log log.now ≡ false }
     ensures { result ≡ oldest_waiting log.now }
 {
-    let at = body_start(log.start, log.held - log.waiting);
+    let at = body_start(log, log.held - log.waiting);
     let mut entry = [0u8; ENTRY_LENGTH];
     entry[..4].copy_from_slice(&identifier_before(log.next, log.waiting));
     entry[4..].copy_from_slice(&log.bodies[at..at + BODY_LENGTH]);
