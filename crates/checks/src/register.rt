@@ -17,6 +17,7 @@ pub fn residue(bytes: &[u8]) -> u16
 }
 
 // The FCS of these bytes. It travels low byte first.
+#[tactic(auto, unfolding(crate::specs::Fcs::fcs))]
 pub fn fcs(bytes: &[u8]) -> u16
     ensures { result ≡ fcs_of bytes.now }
 {

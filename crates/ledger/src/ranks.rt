@@ -27,24 +27,21 @@ pub fn report(totals: Totals) -> Result<Report, Refusal>
 // The report of sums that so many records can give.
 #[tactic(auto, unfolding(totals_spec::specs::Whole::ranked))]
 fn rank(point: Sums, addressed: Sums, ending: Ending, records: u32) -> Report
-    requires point_value { bad_sums records point ≡ false }
-    requires addressed_value { bad_sums records addressed ≡ false }
+    requires point_good { bad_sums records point ≡ false }
+    requires addressed_good { bad_sums records addressed ≡ false }
     ensures { reported_by (Ok result) ≡ ranked point addressed ending records }
 {
     let is_louder = addressed.heard > point.heard;
     let point = line_report(Line::Point, point);
     let addressed = line_report(Line::Addressed, addressed);
-    if is_louder {
-        return Report {
-            first: addressed,
-            second: point,
-            ending,
-            records,
-        };
-    }
+    let (first, second) = if is_louder {
+        (addressed, point)
+    } else {
+        (point, addressed)
+    };
     Report {
-        first: point,
-        second: addressed,
+        first,
+        second,
         ending,
         records,
     }
@@ -52,8 +49,8 @@ fn rank(point: Sums, addressed: Sums, ending: Ending, records: u32) -> Report
 
 // A line's sums, and what was reserved less what was heard, which a signed number has room for.
 fn line_report(line: Line, sums: Sums) -> LineReport
-    requires heard_bound { sums.heard < 0x8000000000000000 }
-    requires reserved_bound { sums.reserved < 0x8000000000000000 }
+    requires heard_fits { sums.heard < 0x8000000000000000 }
+    requires reserved_fits { sums.reserved < 0x8000000000000000 }
     ensures { result ≡ line_report line sums }
 {
     LineReport {

@@ -11,7 +11,7 @@ pub fn put_pairs(bytes: &[u8], out: &mut [u8], at: usize) -> Result<usize, Refus
     ensures { ended at result out.new ≡ put_of (pairs bytes.now) out.old at }
 {
     let Some((first, others)) = bytes.split_first() else {
-        return put(&[b'-'], out, at);
+        return put(b"-", out, at);
     };
     // three places for each pair, less one
     if bytes.len() > (room(out, at) + 1) / 3 {
@@ -44,6 +44,7 @@ fn lay_pair(byte: u8, out: &mut [u8], at: usize)
     out[at + 1] = digit(byte % 16);
 }
 
+#[tactic(auto, unfolding(crate::specs::Hex::digit))]
 fn digit(n: u8) -> u8
     requires { n < 16 }
     ensures { result ≡ digit_of n }

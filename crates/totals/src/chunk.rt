@@ -40,7 +40,7 @@ fn add_all(totals: Totals, chunk: &[u8]) -> Totals
 // Splits a part of a tape into what was heard on either line, for which `point` and `addressed` have room, and lets each line's receiver hear
 // its bytes in one piece.
 fn add_part(totals: Totals, part: &[u8], point: &mut [u8], addressed: &mut [u8]) -> Totals
-    requires totals_value { bad_totals totals ≡ false }
+    requires good { bad_totals totals ≡ false }
     requires point_room { length part.now ≤ 2 * length point.old }
     requires addressed_room { length part.now ≤ 2 * length addressed.old }
     ensures { result ≡ totals_after totals part.now }

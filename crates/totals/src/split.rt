@@ -4,7 +4,6 @@ ghost use Rattle.tape_spec.specs.Limits.{most_records};
 ghost use Rattle.tape_spec.specs.Taping.{awaits_body};
 ghost use Rattle.totals.specs.Splitting.{parted_in, split_on};
 
-use ground::least;
 use reel::{after_kind, kind_of};
 use tape_spec::{Line, MOST_RECORDS, Next};
 
@@ -72,7 +71,7 @@ fn split_records(
     ensures heard { parted_in result point.new addressed.new
         ≡ split_on records Next.Kind rest.now (take on_point point.old) (take on_addressed addressed.old) }
 {
-    let limit = least((MOST_RECORDS - records) as usize, rest.len() / 2);
+    let limit = ((MOST_RECORDS - records) as usize).min(rest.len() / 2);
     let point_kind = kind_of(Line::Point);
     let addressed_kind = kind_of(Line::Addressed);
     let mut on_point = on_point;

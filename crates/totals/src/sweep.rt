@@ -11,8 +11,11 @@ pub(crate) fn skip(piece: &[u8], from: usize) -> usize
     requires { from ≤ length piece.now }
     ensures { Skipped piece.now from result }
 {
-    let rest = &piece[from..];
-    from + rest.iter().position(|&byte| byte == START).unwrap_or(rest.len())
+    let mut at = from;
+    while at < piece.len() && piece[at] != START {
+        at += 1;
+    }
+    at
 }
 
 // Inside a frame, keeps the bytes from the place `from` on that stand for themselves, as many as the content has room for, and answers how

@@ -9,28 +9,18 @@ use lib.ListN.{length}
 use Rattle.std.specs.Prelude.{Result, Ok, Err}
 use Rattle.ground.specs.declared.refusal.Refusal.{Refusal}
 use Rattle.request_spec.specs.Limits.{header_length}
-use Rattle.reader_spec.specs.declared.reader.Buffer.{Buffer}
-use Rattle.reader_spec.specs.declared.reader.Buffer.TheVariants.{Out, Store}
 use Rattle.reader_spec.specs.declared.reader.Reader.{Reader}
 use Rattle.reader_spec.specs.declared.reader.Answer.{Answer}
 use Rattle.reader_spec.specs.Parameters.{after_power}
 use Rattle.reader_spec.specs.State.{state_with, state_of}
 use Rattle.reader_spec.specs.Asking.{asking}
-use Rattle.reader_spec.specs.Sending.{BufferName, OUT, STORE, buffer_named, Buffers}
+use Rattle.reader_spec.specs.Sending.{Buffers}
 use Rattle.reader_spec.specs.Answering.{powering, powered_on, Input, Answered, answer_says, LentWell, Unfit, answered}
 use Rattle.reader_spec.specs.Sessions.{History, StoreKept, Call, Done, ReaderSession}
 use Rattle.reader_spec.proofs.Laws.State.{reader_with, state-back}
+use Rattle.reader_spec.proofs.Laws.Sending.{buffer_with, buffer-back}
 use Rattle.reader_spec.proofs.Laws.Answering.{steps-fine, powers-on, does-steps, none-fit, row-elim}
 use Rattle.reader_spec.proofs.Laws.Sessions.{session-good}
-
--- the buffer with this name
-abbrev buffer_with : BufferName → Buffer
-buffer_with OUT = Out
-buffer_with STORE = Store
-
-buffer-back : (name : BufferName) → buffer_named (buffer_with name) ≡ name
-buffer-back OUT = refl
-buffer-back STORE = refl
 
 -- a result that says this
 pub record Said (s : Reader) (a : Answered) : Type 0 where

@@ -3,7 +3,7 @@
 use mathlib.Core.Path.{◌≡◌, refl, sym, ap, subst, ◌∙◌}
 use mathlib.Core.Bool.{false}
 use mathlib.Core.List.{List, [], ◌∷◌}
-use Prim.Native.Nat.{ℕ, zero, suc, ◌+◌, ◌-◌, ◌≤◌, ◌<◌}
+use Prim.Native.Nat.{ℕ, suc, ◌+◌, ◌-◌, ◌<◌}
 use native.Mathlib.Nat.{add-zero, add_assoc}
 use native.Mathlib.Numerals.{add-one}
 use native.Mathlib.Omega.{arith}
@@ -32,15 +32,7 @@ use Rattle.totals.specs.Sweeping.{Passes, Skipped, Kept}
 
 -- ---- over some bytes
 
--- over none
-passes_none : (s : Receiver) (l : List ℕ) → Passes s l 0 s l
-passes_none s l =
-    record {
-      same = λ sums. ap (λ (h : ℕ). after_bytes (account s (sums_of sums.frames h sums.inside sums.reserved)) l)
-          (sym (add-zero sums.heard));
-    }
-
--- and then over others
+-- over some, and then over others
 passes_then : {s r q : Receiver} {l m n : List ℕ} {k j : ℕ} → Passes s l k r m → Passes r m j q n → Passes s l (k + j) q n
 passes_then {q = q} {n = n} {k = k} {j = j} a b =
     record {
@@ -61,21 +53,12 @@ passes-byte s piece at good more is quiet =
 
 -- ---- outside a frame
 
-skip-none : (piece : List ℕ) (from : ℕ) → from ≤ length piece → Skipped piece from from
-skip-none piece from h =
-    let none : 0 ≡ from - from = omega arith in
-    record {
-      least = omega arith;
-      most = h;
-      passes = λ s out good. subst (λ (k : ℕ). Passes s (drop from piece) k s (drop from piece)) none (passes_none s (drop from piece));
-    }
-
 rests : (s : Receiver) (b : ℕ) → s.phase ≡ Outside → (b ≡ start → ⊥) → Rest ≡ turn_at s b
 rests s b out other =
     let rule : ByRule s.station s.count b Outside Rest = ignored other in
     rule-only rule ∙ ap (λ (p : Phase). turn s.station p s.count b) (sym out)
 
-skip-more : {piece : List ℕ} {from at : ℕ} → Skipped piece from at → at < length piece → (get_or piece at 0 ≡ start → ⊥)
+pub skip-more : {piece : List ℕ} {from at : ℕ} → Skipped piece from at → at < length piece → (get_or piece at 0 ≡ start → ⊥)
     → Skipped piece from (at + 1)
 unfolding moved
 skip-more {piece} {from} {at} k more other =
@@ -87,32 +70,7 @@ skip-more {piece} {from} {at} k more other =
           (passes_then (k.passes s out good) (passes-byte s piece at good more (rests s (get_or piece at 0) out other) refl));
     }
 
--- a run of bytes with no FD
-pub skip-run : (piece : List ℕ) (from n : ℕ) → from + n ≤ length piece → ((k : ℕ) → k < n → get_or piece (from + k) 0 ≡ start → ⊥)
-    → Skipped piece from (from + n)
-skip-run piece from zero part other = subst (Skipped piece from) (sym (add-zero from)) (skip-none piece from (omega arith))
-skip-run piece from (suc n) part other =
-    subst (Skipped piece from) (omega arith)
-    (skip-more (skip-run piece from n (omega arith) (λ k less. other k (omega arith))) (omega arith) (other n (omega arith)))
-
 -- ---- inside a frame
-
-pub keep-none : (station : Station) (content : List ℕ) (count : ℕ) (piece : List ℕ) (from : ℕ) → length content ≡ most_content → count ≤ most_content
-    → from ≤ length piece
-    → Kept station content count piece from count content
-keep-none station content count piece from sized within part =
-    let none : 0 ≡ count - count = omega arith in
-    let here : from ≡ from + (count - count) = omega arith in
-    let s = receiver_of station Inside count content in
-    record {
-      least = omega arith;
-      most = within;
-      part = omega arith;
-      sized = sized;
-      plain = refl;
-      passes = λ good. subst (λ (j : ℕ). Passes s (drop from piece) (count - count) s (drop j piece)) here
-          (subst (λ (k : ℕ). Passes s (drop from piece) k s (drop from piece)) none (passes_none s (drop from piece)));
-    }
 
 -- the byte after one that is not the address is not the address
 pub later-next : {station : Station} {n : ℕ} → Later station n → Later station (suc n)

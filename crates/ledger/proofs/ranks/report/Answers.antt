@@ -13,4 +13,4 @@ rank-requires c =
     let n = t.tape.records in
     let a = or-none (bad_tape t.tape) (bad_sums n t.point || bad_sums n t.addressed) (sym c.is_bad_totals.ensures ∙ c.if-is_bad_totals.false) in
     let b = or-none (bad_sums n t.point) (bad_sums n t.addressed) a.1 in
-    record { point_value = b.0; addressed_value = b.1 }
+    record { point_good = b.0; addressed_good = b.1 }

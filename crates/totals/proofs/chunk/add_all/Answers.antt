@@ -15,8 +15,8 @@ pub loop-part-init : goal.loop-part-init
 loop-part-init c =
     (search rules, tt, search rules, record { fine = fine-is c.args.totals (omega arith) c.requires; same = ap (totals_after c.args.totals) (search rules) })
 
-pub add_part-totals-requires-clause-totals_value : goal.add_part-totals-requires-clause-totals_value
-add_part-totals-requires-clause-totals_value c = fine-good c.loop-part.invariant.3.fine
+pub add_part-totals-requires-clause-good : goal.add_part-totals-requires-clause-good
+add_part-totals-requires-clause-good c = fine-good c.loop-part.invariant.3.fine
 
 pub loop-part-preserved : goal.loop-part-preserved
 loop-part-preserved c =

@@ -18,7 +18,7 @@ use Rattle.totals.proofs.chunk.add_part.Goals.{After-split-parted}
 
 -- totals that are not bad
 fine : (c : After-split-parted) → Fine c.args.totals
-fine c = fine-is c.args.totals (omega arith) c.requires.totals_value
+fine c = fine-is c.args.totals (omega arith) c.requires.good
 
 -- no sum of totals that no call refuses is more than a whole tape can give
 small : (c : After-split-parted) (line : Line) → bad_sums most_records (sums_at line c.args.totals) ≡ false
@@ -35,7 +35,7 @@ heard-few c =
     (omega (arith, ap (λ (p : Pieces). length p.point) split, few.0), omega (arith, ap (λ (p : Pieces). length p.addressed) split, few.1))
 
 pub split-parted-requires-clause-permitted : goal.split-parted-requires-clause-permitted
-split-parted-requires-clause-permitted c = permitted (fine-is c.args.totals (omega arith) c.requires.totals_value)
+split-parted-requires-clause-permitted c = permitted (fine-is c.args.totals (omega arith) c.requires.good)
 
 pub hear-on_point-requires-clause-counted : goal.hear-on_point-requires-clause-counted
 hear-on_point-requires-clause-counted c = small (goal.at.hear-on_point-requires-clause-counted c).After-split-parted Point

@@ -5,7 +5,9 @@ use mathlib.Core.Logic.{⊎_elim}
 use Prim.Native.Nat.{◌+◌, ◌*◌}
 use native.Mathlib.Omega.{arith}
 use lib.ListN.{take, drop, get_or, length-set}
+use Rattle.std.proofs.lemmas.Bool.{cases_lt}
 use Rattle.tape_spec.specs.declared.tape.Next.{Next}
+use Rattle.tape_spec.specs.Limits.{most_records}
 use Rattle.tape_spec.specs.Taping.{after_kind}
 use Rattle.tape_spec.proofs.Laws.Coming.{coming-after}
 use Rattle.tape_spec.proofs.Laws.Unique.{same-coming}
@@ -46,9 +48,9 @@ returns-then-count-rest-clause-heard c =
     let no-further : chunk_of n (after_kind n k) after ≡ no_record (after_kind n k) =
     elim c.loop-count-test.branch [
       | else-loop-count-test w ↦ ⊎_elim
+          (λ few. none_left n (after_kind n k) c.args.rest.now (2 * l.count + 1) (omega arith))
           (λ most. chunk-over after n (after_kind n k) (over-full n k (omega arith)))
-          (λ all. none_left n (after_kind n k) c.args.rest.now (2 * l.count + 1) (omega arith))
-          c.least-limit.ensures.one
+          (cases_lt n most_records)
       | then-loop-count-test+else-kind-point_kind+else-kind-addressed_kind w ↦ chunk-over after n (after_kind n k)
           (over-unknown n k (omega arith) (λ x. w.if-kind-point_kind.false (x ∙ sym c.kind_of-point_kind.ensures))
           (λ x. w.if-kind-addressed_kind.false (x ∙ sym c.kind_of-addressed_kind.ensures)))

@@ -1,5 +1,5 @@
 -- `receivers::Receivers::fresh`: the master's address is one that a station may have.
-use Rattle.std.proofs.Common.{◌≡◌, ap, Ok, Err, Result}
+use Rattle.std.proofs.Common.{◌≡◌, refl, ap, Ok, Err, Result}
 use Rattle.std.specs.Prelude.{IsOk}
 use Rattle.ground.specs.declared.refusal.Refusal.{Refusal}
 use Rattle.ground.proofs.Laws.Refusals.{number-some}
@@ -9,7 +9,7 @@ use Rattle.bench.proofs.receivers.Receivers.fresh.Goals as goal
 
 is-made : (r : Result Receiver Refusal) → made 0 r ≡ fresh_made 0 → IsOk r
 unfolding fresh_made
-is-made (Ok receiver) says = tt
+is-made (Ok receiver) says = refl
 is-made (Err why) says = absurd (number-some why (ap (λ (m : Made). m.refusal) says))
 
 pub unwrap-requires : goal.unwrap-requires
