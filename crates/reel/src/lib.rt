@@ -6,5 +6,5 @@ mod receivers;
 mod state;
 
 pub use kind::{after_kind, kind_of};
-pub use receivers::{receiver_on, with_receiver};
+pub use receivers::{receiver_on, set_receiver};
 pub use state::{fresh_tape, is_bad_tape, is_over};

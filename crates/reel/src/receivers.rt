@@ -25,19 +25,13 @@ pub fn receiver_on(receivers: Receivers, line: Line) -> Receiver
     }
 }
 
-// With another receiver on a line.
-pub fn with_receiver(receivers: Receivers, line: Line, receiver: Receiver) -> Receivers
-    ensures { result ≡ with_receiver line receiver receivers }
+// Puts another receiver on a line.
+pub fn set_receiver(receivers: &mut Receivers, line: Line, receiver: Receiver)
+    ensures { receivers.new ≡ with_receiver line receiver receivers.old }
 {
     match line {
-        Line::Point => Receivers {
-            point: receiver,
-            ..receivers
-        },
-        Line::Addressed => Receivers {
-            addressed: receiver,
-            ..receivers
-        },
+        Line::Point => receivers.point = receiver,
+        Line::Addressed => receivers.addressed = receiver,
     }
 }
 

@@ -31,12 +31,24 @@ enum Failure {
     Refused,
 }
 
-// Says what failed, and why.
+impl From<Refusal> for Failure {
+    fn from(refusal: Refusal) -> Failure {
+        match refusal {
+            Refusal::TapeTooLong => Failure::TooLong,
+            _ => Failure::Refused,
+        }
+    }
+}
+
+// Says what failed, and why; where the tape is too long a row on standard output says so too.
 fn tell(rt: &HostRuntime, failure: Failure) {
     match failure {
         Failure::Read(error) => fail(rt, "report: standard input", error),
         Failure::Write(error) => fail(rt, "report: standard output", error),
         Failure::TooLong => {
+            if let Err(error) = rt.stdout().write_all(b"refused 10 TapeTooLong\n") {
+                fail(rt, "report: standard output", error);
+            }
             let _ = eprintln!(rt;
                 "report: the tape goes on after 4294967295 records, the most it may have: report it in parts"
             );
@@ -45,11 +57,6 @@ fn tell(rt: &HostRuntime, failure: Failure) {
             let _ = eprintln!(rt; "report: the tape was refused");
         }
     }
-}
-
-// Writes all of `text`.
-fn print(rt: &HostRuntime, text: &[u8]) -> Result<(), Failure> {
-    rt.stdout().write_all(text).map_err(Failure::Write)
 }
 
 // Puts the row of a line at a place of `text`, which has room for the longest; where it ends.
@@ -74,24 +81,6 @@ fn put_report(report: Report, text: &mut [u8]) -> usize
     second + write_ending(report.ending, report.records, &mut text[second..]).unwrap()
 }
 
-// Writes a report once all of it is there; of a tape that is too long a row that says so.
-fn print_report(rt: &HostRuntime, report: Result<Report, Refusal>) -> Result<(), Failure> {
-    match report {
-        Ok(report) => {
-            let mut text = [0u8; MOST_TEXT];
-            let end = put_report(report, &mut text);
-            print(rt, &text[..end])
-        }
-        Err(Refusal::TapeTooLong) => {
-            if let Err(failure) = print(rt, b"refused 10 TapeTooLong\n") {
-                tell(rt, failure);
-            }
-            Err(Failure::TooLong)
-        }
-        Err(_) => Err(Failure::Refused),
-    }
-}
-
 // No tape is read further than 2^33 - 1 bytes, and a block has one at least.
 const MOST_BLOCKS: u64 = 0x2_0000_0000;
 
@@ -101,7 +90,7 @@ fn add_blocks(rt: &HostRuntime, progress: &mut Progress) -> Result<Totals, Failu
     let mut totals = fresh_totals();
     for _ in 0..MOST_BLOCKS {
         let count = rt.stdin().read(&mut block).map_err(Failure::Read)?;
-        totals = add(totals, &block[..count]).map_err(|_| Failure::Refused)?;
+        totals = add(totals, &block[..count])?;
         if count == 0 || is_over(totals.tape) {
             break;
         }
@@ -110,12 +99,14 @@ fn add_blocks(rt: &HostRuntime, progress: &mut Progress) -> Result<Totals, Failu
     Ok(totals)
 }
 
-// Reports a whole tape. The notice is taken away before anything else is said.
+// Reports a whole tape, once all of its report is there. The notice is taken away before anything else is said.
 fn report_tape(rt: &HostRuntime) -> Result<(), Failure> {
     let mut progress = begin(rt, true);
     let added = add_blocks(rt, &mut progress);
     hide(rt, progress);
-    print_report(rt, report(added?))
+    let mut text = [0u8; MOST_TEXT];
+    let end = put_report(report(added?)?, &mut text);
+    rt.stdout().write_all(&text[..end]).map_err(Failure::Write)
 }
 
 fn main(rt: HostRuntime) -> ExitCode {

@@ -1,10 +1,10 @@
 // The row of an event.
-ghost use Rattle.std.specs.Prelude.{◌≡◌, ◌≤◌, length, take, Some, Ok};
+ghost use Rattle.std.specs.Prelude.{◌≡◌, Some, Ok};
 ghost use Rattle.ground.specs.Laying.{ended, put as put_of};
 ghost use Rattle.link_spec.specs.Events.{named};
 ghost use Rattle.link_spec.specs.Receiving.{saying};
 ghost use Rattle.tape_spec.specs.Rows.{letter as letter_of, row, name_of, heard_row};
-ghost use Rattle.rows.specs.Heads.{most_head, head_of};
+ghost use Rattle.rows.specs.Heads.{head_of};
 
 use ground::{Refusal, put, room};
 use link_spec::{Event, Heard};
@@ -61,8 +61,12 @@ fn put_row(
 }
 
 // Lays what a row begins with, its number, the line's letter and the event's name, to the front of `head`, and answers its length.
-fn lay_head(number: u32, line: Line, event: Event, head: &mut [u8]) -> Result<usize, Refusal>
-    requires { length head.old ≡ most_head }
+fn lay_head(
+    number: u32,
+    line: Line,
+    event: Event,
+    head: &mut [u8; MOST_HEAD],
+) -> Result<usize, Refusal>
     ensures { ended 0 result head.new ≡ put_of (head_of number line (named (Some event))) head.old 0 }
 {
     let counted = put_decimal(number as u64, head, 0)?;

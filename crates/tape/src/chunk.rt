@@ -5,7 +5,7 @@ ghost use Rattle.tape_spec.specs.Taping.{bad_tape, listed_out, text_written, goi
 
 use crate::run::run;
 use ground::Refusal;
-use reel::{after_kind, is_bad_tape, receiver_on, with_receiver};
+use reel::{after_kind, is_bad_tape, receiver_on, set_receiver};
 use tape_spec::{LEAST_ROOM, Listed, Next, Tape};
 
 // Records that are heard together at most.
@@ -45,7 +45,7 @@ fn go(mut tape: Tape, chunk: &[u8], out: &mut [u8]) -> Listed
                 let receiver = receiver_on(tape.receivers, line);
                 let rest = &chunk[taken..];
                 let ran = run(line, receiver, tape.records, rest, &mut piece, out, written);
-                tape.receivers = with_receiver(tape.receivers, line, ran.receiver);
+                set_receiver(&mut tape.receivers, line, ran.receiver);
                 tape.records += ran.count as u32;
                 tape.next = Next::Kind;
                 taken += 2 * ran.count - 1;

@@ -30,7 +30,7 @@ pub fn write_image(content: &[u8], out: &mut [u8]) -> Result<usize, Refusal>
         return Err(Refusal::NoRoom);
     }
     out[0] = START;
-    stuff(content, &mut out[1..]);
-    out[1 + stuffed] = STOP;
-    Ok(2 + stuffed)
+    let end = 1 + stuff(content, &mut out[1..]);
+    out[end] = STOP;
+    Ok(end + 1)
 }

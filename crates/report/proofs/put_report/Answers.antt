@@ -1,16 +1,16 @@
 -- `put_report`: each row has room after the one before, and together they are the report's text.
-use Rattle.std.proofs.Common.{◌≡◌, ℕ, ◌+◌, ◌*◌, ◌-◌, ◌≤◌, List, ◌++◌, length, refl, ap, ◌∙◌, append_assoc, arith}
-use borrow.Rule.Slice.PartMut.{put_mid, mid_of}
-use Rattle.ground.specs.Laying.{laid, Ended, put}
+use Rattle.std.proofs.Common.{◌≡◌, ℕ, ◌+◌, ◌-◌, ◌≤◌, List, ◌++◌, length, refl, ap, ◌∙◌, append_assoc, arith}
+use borrow.Rule.Slice.PartMut.{put_mid}
+use Rattle.ground.specs.Laying.{laid}
 use Rattle.ground.proofs.Laws.Laying.{length-laid}
 use Rattle.text.specs.Ascii.{ascii}
-use Rattle.tape_spec.specs.Limits.{most_records}
 use Rattle.tape_spec.specs.Rows.{last_row}
 use Rattle.tape_spec.proofs.Laws.Rows.{last_within}
 use Rattle.totals_spec.specs.declared.totals.Report.{Report}
-use Rattle.totals_spec.specs.Rows.{title_row, sums_row, report_text, most_row, most_text}
-use Rattle.report.proofs.Laws.Parts.{part_placed, Front, front-first, front-more, take-of-front}
+use Rattle.totals_spec.specs.Rows.{title_row, sums_row, report_text}
+use Rattle.report.proofs.Laws.Parts.{put-ok, part-ok, part_placed, Front, front-first, front-more, take-of-front}
 use Rattle.report.proofs.put_report.Goals as goal
+use Rattle.report.proofs.put_report.Goals.{After-unwrap-title, After-unwrap}
 
 -- the rows of a report
 length-title : length title_row ≡ 45
@@ -26,69 +26,75 @@ second_row r = sums_row r.second.line r.second.sums
 abbrev end_row : Report → List ℕ
 end_row r = last_row r.ending r.records
 
--- the title at the front of a buffer that has room for a report
-record Titled (text : List ℕ) (e : Ended) : Type 0 where
-  ends : e.end ≡ 45
-  front : Front text title_row e.end e.out
+pub unwrap-title-requires : goal.unwrap-title-requires
+unwrap-title-requires c = put-ok c.write_title.result _ title_row c.args.text.now c.write_title.ensures (omega (arith, length-title, c.requires))
 
-titled : {e : Ended} (text : List ℕ) → e ≡ put title_row text 0 → most_text ≤ length text → Titled text e
-titled text says roomy =
-    let front = front-first text title_row says (omega (arith, length-title)) in record { ends = omega (arith, front.0, length-title); front = front }
+-- the title at the front of a buffer that has room for a report
+record Titled (text : List ℕ) (end : ℕ) (now : List ℕ) : Type 0 where
+  ends : end ≡ 45
+  front : Front text title_row end now
+
+titled : (c : After-unwrap-title) → Titled c.args.text.now c.unwrap-title.result c.write_title.new.out
+titled c =
+    let front = front-first c.args.text.now title_row (rw c.unwrap-title.ensures at c.write_title.ensures) (omega (arith, length-title, c.requires)) in
+    record { ends = omega (arith, front.0, length-title); front = front }
+
+pub put_line-first-requires : goal.put_line-first-requires
+put_line-first-requires c =
+    omega (arith, (titled (goal.at.put_line-first-requires c).After-unwrap-title).ends, c.write_title.auto)
+
+pub put_line-second-requires : goal.put_line-second-requires
+put_line-second-requires c = omega (arith, (titled (goal.at.put_line-second-requires c).After-unwrap-title).ends)
+
+pub slice_bounds-write_ending-count : goal.slice_bounds-write_ending-count
+slice_bounds-write_ending-count c = omega (arith, (titled (goal.at.slice_bounds-write_ending-count c).After-unwrap-title).ends)
+
+pub slice_bounds-write_ending-start : goal.slice_bounds-write_ending-start
+slice_bounds-write_ending-start c = omega (arith, (titled (goal.at.slice_bounds-write_ending-start c).After-unwrap-title).ends)
+
+pub unwrap-requires : goal.unwrap-requires
+unwrap-requires c =
+    let r = c.args.report in
+    let s = c.put_line-second in
+    part-ok c.write_ending.result _ s.new.text s.result (end_row r) c.write_ending.ensures
+    (omega (arith, last_within r.ending r.records (omega arith), (titled (goal.at.unwrap-requires c).After-unwrap-title).ends))
 
 -- the last row where the title and the rows of two lines are before it
-record Last (r : Report) (text : List ℕ) (at : ℕ) (e : Ended) : Type 0 where
-  within : at + e.end ≤ length text
-  ends : e.end ≡ length (end_row r)
-  stands : put_mid at (length text - at) text e.out ≡ laid text at (end_row r)
-  kept : length (put_mid at (length text - at) text e.out) ≡ length text
+record Last (r : Report) (text : List ℕ) (at end : ℕ) (left : List ℕ) : Type 0 where
+  within : at + end ≤ length text
+  ends : end ≡ length (end_row r)
+  stands : put_mid at (length text - at) text left ≡ laid text at (end_row r)
+  kept : length (put_mid at (length text - at) text left) ≡ length text
 
-last : {e : Ended} (r : Report) (text : List ℕ) (at : ℕ) → e ≡ put (end_row r) (mid_of at (length text - at) text) 0 → r.records ≤ most_records
-    → at ≤ 45 + 2 * most_row → most_text ≤ length text → Last r text at e
-last r text at says few here roomy =
-    let short = last_within r.ending r.records few in
-    let fits : at + length (end_row r) ≤ length text = omega (arith, short) in
-    let placed = part_placed text at (end_row r) says fits in record {
+last : (c : After-unwrap) → let s = c.put_line-second in Last c.args.report s.new.text s.result c.unwrap.result c.write_ending.new.out
+last c =
+    let r = c.args.report in
+    let s = c.put_line-second in
+    let short = last_within r.ending r.records (omega arith) in
+    let fits : s.result + length (end_row r) ≤ length s.new.text =
+    omega (arith, short, (titled (goal.at.overflow_add-result c).After-unwrap-title).ends) in
+    let placed = part_placed s.new.text s.result (end_row r) (rw c.unwrap.ensures at c.write_ending.ensures) fits in record {
       within = omega (arith, placed.0, fits);
       ends = placed.0;
       stands = placed.1;
-      kept = ap length placed.1 ∙ length-laid text at (end_row r) fits;
+      kept = ap length placed.1 ∙ length-laid s.new.text s.result (end_row r) fits;
     }
 
-pub put_line-end-requires : goal.put_line-end-requires
-put_line-end-requires c = omega (arith, (titled c.args.text.now c.write_title-title.ensures c.requires).ends, c.write_title-title.auto)
-
-pub put_line-end-requires-2 : goal.put_line-end-requires-2
-put_line-end-requires-2 c = omega (arith, (titled c.args.text.now c.write_title-title.ensures c.requires).ends)
-
-pub slice_bounds-write_ending-count : goal.slice_bounds-write_ending-count
-slice_bounds-write_ending-count c = omega (arith, (titled c.args.text.now c.write_title-title.ensures c.requires).ends)
-
-pub slice_bounds-write_ending-start : goal.slice_bounds-write_ending-start
-slice_bounds-write_ending-start c = omega (arith, (titled c.args.text.now c.write_title-title.ensures c.requires).ends)
-
 pub overflow_add-result : goal.overflow_add-result
-overflow_add-result c =
-    let t = titled c.args.text.now c.write_title-title.ensures c.requires in
-    let s = c.put_line-end-2 in
-    let l = last c.args.report s.new.text s.result c.write_ending-last.ensures (omega arith) (omega (arith, t.ends)) (omega arith) in
-    omega (arith, l.within)
+overflow_add-result c = omega (arith, (last c).within)
 
 pub returns-clause-upper_bound : goal.returns-clause-upper_bound
-returns-clause-upper_bound c =
-    let t = titled c.args.text.now c.write_title-title.ensures c.requires in
-    let s = c.put_line-end-2 in
-    let l = last c.args.report s.new.text s.result c.write_ending-last.ensures (omega arith) (omega (arith, t.ends)) (omega arith) in
-    omega (arith, l.within, l.kept)
+returns-clause-upper_bound c = omega (arith, (last c).within, (last c).kept)
 
 pub returns-clause-text_after : goal.returns-clause-text_after
 unfolding report_text
 returns-clause-text_after c =
     let r = c.args.report in
     let text = c.args.text.now in
-    let f = c.put_line-end in
-    let s = c.put_line-end-2 in
-    let t = titled text c.write_title-title.ensures c.requires in
-    let l = last r s.new.text s.result c.write_ending-last.ensures (omega arith) (omega (arith, t.ends)) (omega arith) in
+    let f = c.put_line-first in
+    let s = c.put_line-second in
+    let t = titled (goal.at.returns-clause-text_after c).After-unwrap-title in
+    let l = last c in
     let with_first = front-more text title_row (first_row r) t.front f.ensures.value f.ensures.text_after in
     let with_second = front-more text (title_row ++ first_row r) (second_row r) with_first s.ensures.value s.ensures.text_after in
     let lines = (title_row ++ first_row r) ++ second_row r in

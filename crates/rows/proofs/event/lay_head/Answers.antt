@@ -28,14 +28,14 @@ pub returns-in_err-counted : goal.returns-in_err-counted
 returns-in_err-counted c =
     let a = c.args in
     let fits = parts-within a.number a.line (named (Some a.event)) (omega (arith, c.ranges)) in
-    absurd (puts-some c.in_err-counted.field-0.0 (last c.in_err-counted.ensures) zero-le (omega (arith, fits, c.requires)))
+    absurd (puts-some c.in_err-counted.field-0.0 (last c.in_err-counted.ensures) zero-le (omega (arith, fits)))
 
 pub returns-in_err-lettered : goal.returns-in_err-lettered
 returns-in_err-lettered c =
     let a = c.args in
     let fits = parts-within a.number a.line (named (Some a.event)) (omega (arith, c.ranges)) in
     absurd (puts-some c.in_err-lettered.field-0.0 (then _ _ _ c.in_ok-counted.ensures (last (rw c.letter.ensures at c.in_err-lettered.ensures))) zero-le
-    (omega (arith, fits, c.requires)))
+    (omega (arith, fits)))
 
 pub returns : goal.returns
 returns c =
@@ -44,4 +44,4 @@ returns c =
     puts-whole c.in_ok-lettered.lettered c.put-2.result c.put-2.new.out
     (then _ _ _ c.in_ok-counted.ensures
     (then _ _ _ (rw c.letter.ensures at c.in_ok-lettered.ensures)
-    (last (rw c.name.ensures at c.put-2.ensures)))) zero-le (omega (arith, fits, c.requires))
+    (last (rw c.name.ensures at c.put-2.ensures)))) zero-le (omega (arith, fits))

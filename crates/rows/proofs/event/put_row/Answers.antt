@@ -108,11 +108,11 @@ fits c two three =
     }
 
 pub slice_bounds-head-end : goal.slice_bounds-head-end
-slice_bounds-head-end c = omega (arith, (measured (goal.at.slice_bounds-head-end c).After-room-space).head-within, c.lay_head.auto)
+slice_bounds-head-end c = omega (arith, (measured (goal.at.slice_bounds-head-end c).After-room-space).head-within)
 
 pub slice_bounds-put-end : goal.slice_bounds-put-end
 slice_bounds-put-end c =
-    sym (length-take-le _ _ (omega (arith, (measured (goal.at.slice_bounds-put-end c).After-room-space).head-within, c.lay_head.auto)))
+    sym (length-take-le _ _ (omega (arith, (measured (goal.at.slice_bounds-put-end c).After-room-space).head-within)))
 
 pub returns-in_err-begun : goal.returns-in_err-begun
 returns-in_err-begun c =

@@ -92,7 +92,7 @@ loop-taken-preserved c =
     let a = c.args in
     let q = c.run-ran.result in (
       subst⁻¹ (λ (x : Receivers). Goes a.chunk.now (asked a.chunk.now a.tape a.out.now) c.run-ran.new.out
-          (tape_of (l.tape.records + q.count) Kind x) (l.taken + (2 * q.count - 1)) q.end) c.with_receiver-tape.ensures
+          (tape_of (l.tape.records + q.count) Kind x) (l.taken + (2 * q.count - 1)) q.end) c.set_receiver.ensures
           (kind-next l.invariant.0 c.in-Body.is c.if-out-written-ge-LEAST_ROOM.true c.receiver_on-receiver.ensures c.run-ran.ensures),
       c.run-ran.auto.out ∙ l.invariant.1,
       c.run-ran.auto.piece ∙ l.invariant.2,

@@ -1,6 +1,6 @@
 -- `image::write_image`: where the buffer has room for it, start, the stuffing in the part lent from index one on, and stop are the image.
 -- Assumes nothing.
-use mathlib.Core.Path.{◌≡◌, sym, ap, ap₂, ◌∙◌}
+use mathlib.Core.Path.{◌≡◌, ap, ap₂, ◌∙◌}
 use mathlib.Core.List.{List}
 use Prim.Native.Nat.{ℕ, ◌+◌, ◌-◌, ◌≤◌}
 use native.Mathlib.Omega.{arith}
@@ -21,13 +21,11 @@ returns c =
     let content = c.args.content.now in
     let out = c.args.out.now in
     let begun = set out 0 start in
-    let stuffed = c.stuffed_length-stuffed.ensures in
     let room : 2 + length (stuffing content) ≤ length out = omega arith in
     let fits : 1 + length (stuffing content) ≤ length begun = simp length-set (omega arith) in
-    let back : put_mid 1 (length begun - 1) begun c.stuff.new.room ≡ laid begun 1 (stuffing content)
-    = ap (put_mid 1 (length begun - 1) begun) c.stuff.ensures.1 ∙ laid-part begun 1 _ fits in
+    let back : put_mid 1 (length begun - 1) begun c.stuff-end.new.room ≡ laid begun 1 (stuffing content)
+    = ap (put_mid 1 (length begun - 1) begun) c.stuff-end.ensures.1 ∙ laid-part begun 1 _ fits in
     let h : length (image content) ≤ length out = omega (arith, image-stuffing content) in
     rw (written-whole content out h)
-    (ap₂ leaving
-    (ap counted (ap (λ (n : ℕ). 2 + n) stuffed ∙ sym (image-stuffing content)))
-    (ap₂ (λ (l : List ℕ) (k : ℕ). set l (1 + k) stop) back stuffed ∙ image-laid content out h))
+    (ap₂ leaving (ap counted (omega (arith, image-stuffing content)))
+    (ap₂ (λ (l : List ℕ) (k : ℕ). set l (1 + k) stop) back c.stuff-end.ensures.0 ∙ image-laid content out h))
