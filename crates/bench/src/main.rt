@@ -43,7 +43,10 @@ fn run(rt: &HostRuntime, space: &mut [u8]) -> bool {
             Err(ending) => return write_last(rt, ending, records),
         };
         let payload = front(space, record.length);
-        if !bench.perform(record.op, payload, Row::of_op(record.code)).print(rt) {
+        if !bench
+            .perform(record.op, payload, Row::of_op(record.code))
+            .print(rt)
+        {
             return false;
         }
     }

@@ -63,7 +63,13 @@ impl Device {
         let store = front_mut(&mut self.store, store_room);
         let out = front_mut(&mut self.out, out_room);
         let answered = reader::answer(
-            self.reader, event_of(*event), content, self.header, antenna, store, out,
+            self.reader,
+            event_of(*event),
+            content,
+            self.header,
+            antenna,
+            store,
+            out,
         );
         let row = row.refusal(answered.err());
         // Refused, the reader is as it was and sends nothing.

@@ -36,8 +36,10 @@ pub(crate) fn read_record(rt: &HostRuntime, space: &mut [u8]) -> Result<Record, 
 
 // Reads until all of `part` is filled; where the script ends before that, this is its ending.
 fn read_part(rt: &HostRuntime, part: &mut [u8], ending: Ending) -> Result<(), Ending> {
-    rt.stdin().read_exact(part).map_err(|error| match error.kind() {
-        ErrorKind::UnexpectedEof => ending,
-        _ => Ending::Failed(error),
-    })
+    rt.stdin()
+        .read_exact(part)
+        .map_err(|error| match error.kind() {
+            ErrorKind::UnexpectedEof => ending,
+            _ => Ending::Failed(error),
+        })
 }

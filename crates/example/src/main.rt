@@ -5,7 +5,7 @@
 ghost use Rattle.std.specs.Prelude.{◌≤◌, length, IfOk};
 
 use ground::{Refusal, put};
-use link::{Event, Verdict, fresh_point, receive, write_point};
+use link::{Event, fresh_point, receive, write_point};
 use std::io::Write;
 use std::process::ExitCode;
 use text::put_pairs;
@@ -44,15 +44,14 @@ fn run(rt: &HostRuntime) -> bool {
     let Ok(heard) = receive(fresh_point(), &out[..count]) else {
         return false;
     };
-    let Some(Verdict {
-        event: Event::Frame,
-        length,
-    }) = heard.told
-    else {
+    let Some(verdict) = heard.told else {
         return false;
     };
-    prove!(length == 2);
-    print(rt, &heard.content[..length])
+    if verdict.event != Event::Frame {
+        return false;
+    }
+    prove!(verdict.length == 2);
+    print(rt, &heard.content[..verdict.length])
 }
 
 fn main(rt: HostRuntime) -> ExitCode {

@@ -45,4 +45,4 @@ unfolding written
 prove-unreachable-requires-2 c =
     let two : length_told c.in-Ok-receive.heard.told ≡ 2 =
     carries (hears (rw c.in-Ok.is at c.write_point.ensures) c.fresh_point.ensures (rw c.in-Ok-receive.is at c.receive.ensures)) in
-    c.if-prove-2.true (rw c.in-Some-Frame.is (rw c.in-Some-Frame.is at two))
+    c.if-prove-2.true (rw c.in-Some.is at two)
