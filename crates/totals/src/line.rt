@@ -30,7 +30,7 @@ pub(crate) fn hear(receiver: Receiver, sums: Sums, piece: &[u8]) -> Account
     let mut phase = receiver.phase;
     let mut count = receiver.count;
     let mut content = receiver.content;
-    // an image has a byte more for each of them
+    // the content bytes so far for each of which an image has a byte more
     let mut specials = count_specials(&content[..count]);
     let mut frames = sums.frames;
     let mut inside = sums.inside;
