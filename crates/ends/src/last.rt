@@ -11,7 +11,7 @@ use text::put_decimal;
 // Places for the longest last row: a word of 4 letters, a blank, 10 digits and the row's end.
 const MOST_LAST: usize = 16;
 
-// Writes the last row of a tape that ends here to the front of `out`. Refuses an `out` that is shorter (NoRoom).
+// Writes the last row of a tape that ends here to the front of `out`, and answers where it ends. Refuses an `out` that is shorter (NoRoom).
 pub fn write_last(tape: Tape, out: &mut [u8]) -> Result<usize, Refusal>
     ensures { ended 0 result out.new ≡ put_of (last_row_of tape) out.old 0 }
 {
@@ -30,7 +30,8 @@ pub fn ending(next: Next) -> Ending
     }
 }
 
-// Writes the last row of a tape that ends like this after this many records. Refuses an `out` that is shorter (NoRoom).
+// Writes the last row of a tape that ends like this after this many records to the front of `out`, and answers where it ends. Refuses an
+// `out` that is shorter (NoRoom).
 pub fn write_ending(ending: Ending, records: u32, out: &mut [u8]) -> Result<usize, Refusal>
     ensures { ended 0 result out.new ≡ put_of (last_row ending records) out.old 0 }
 {

@@ -36,7 +36,7 @@ pub fn put_heard(
     put_row(number, line, told.event, &heard.content[..shown], out, at)
 }
 
-// Puts a row with the name of an event, and the content that it shows. Refuses an `out` that ends before the row (NoRoom).
+// Puts a row with the name of an event, and the content that it shows, and answers where it ends. Refuses an `out` that ends before the row (NoRoom).
 fn put_row(
     number: u32,
     line: Line,
