@@ -45,11 +45,20 @@ fn add_part(totals: Totals, part: &[u8], point: &mut [u8], addressed: &mut [u8])
     requires addressed_room { length part.now ≤ 2 * length addressed.old }
     ensures { result ≡ totals_after totals part.now }
 {
-    let tape = totals.tape;
-    let parted = split(tape.records, tape.next, part, point, addressed);
-    let on_point = hear(tape.receivers.point, totals.point, &point[..parted.point]);
+    let parted = split(
+        totals.tape.records,
+        totals.tape.next,
+        part,
+        point,
+        addressed,
+    );
+    let on_point = hear(
+        totals.tape.receivers.point,
+        totals.point,
+        &point[..parted.point],
+    );
     let on_addressed = hear(
-        tape.receivers.addressed,
+        totals.tape.receivers.addressed,
         totals.addressed,
         &addressed[..parted.addressed],
     );

@@ -27,11 +27,10 @@ pub(crate) fn hear(receiver: Receiver, sums: Sums, piece: &[u8]) -> Account
     requires short { length piece.now ≤ most_records }
     ensures { account result.receiver result.sums ≡ after_bytes (account receiver sums) piece.now }
 {
-    let station = receiver.station;
     let mut phase = receiver.phase;
     let mut count = receiver.count;
     let mut content = receiver.content;
-    // an image has a byte more for each of them
+    // the content bytes so far for each of which an image has a byte more
     let mut specials = count_specials(&content[..count]);
     let mut frames = sums.frames;
     let mut inside = sums.inside;
@@ -41,14 +40,14 @@ pub(crate) fn hear(receiver: Receiver, sums: Sums, piece: &[u8]) -> Account
         match phase {
             Phase::Outside => taken = skip(piece, taken),
             Phase::Inside => {
-                let kept = keep(station, &mut content, count, piece, taken);
+                let kept = keep(receiver.station, &mut content, count, piece, taken);
                 taken += kept - count;
                 count = kept;
             }
             Phase::Pending => {}
         }
         if taken < piece.len() {
-            let turn = at_byte(station, phase, count, piece[taken]);
+            let turn = at_byte(receiver.station, phase, count, piece[taken]);
             taken += 1;
             match turn {
                 Turn::Rest => {}
@@ -67,7 +66,7 @@ pub(crate) fn hear(receiver: Receiver, sums: Sums, piece: &[u8]) -> Account
                     }
                 }
                 Turn::Stop => {
-                    if at_stop(station, &content[..count]).event == Event::Frame {
+                    if at_stop(receiver.station, &content[..count]).event == Event::Frame {
                         frames += 1;
                         inside += (2 + count + specials) as u64;
                         reserved += (2 + 2 * count) as u64;
@@ -86,10 +85,10 @@ pub(crate) fn hear(receiver: Receiver, sums: Sums, piece: &[u8]) -> Account
     }
     Account {
         receiver: Receiver {
-            station,
             phase,
             count,
             content,
+            ..receiver
         },
         sums: Sums {
             frames,

@@ -2,14 +2,13 @@
 -- Assumes nothing.
 use Prim.Native.Nat.{◌-◌}
 use lib.ListN.{length}
-use Rattle.link_spec.specs.Receiving.{receiver_of}
 use Rattle.totals_spec.specs.Adding.{account, after_bytes}
 use Rattle.totals.proofs.Laws.Hearing.{Goes}
 use Rattle.totals.proofs.line.hear.Given as goal
 
 abbrev pub invariant-loop-taken : goal.invariant-loop-taken
 invariant-loop-taken l =
-    Goes l.station l.sums.heard l.piece (after_bytes (account (receiver_of l.station l.initial.phase l.initial.count l.initial.content) l.sums) l.piece) l.phase l.count l.content l.specials l.frames l.inside
+    Goes l.receiver.station l.sums.heard l.piece (after_bytes (account l.receiver l.sums) l.piece) l.phase l.count l.content l.specials l.frames l.inside
     l.reserved l.taken
 
 abbrev pub decreases-loop-taken : goal.decreases-loop-taken
