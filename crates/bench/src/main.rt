@@ -38,15 +38,15 @@ fn run(rt: &HostRuntime, space: &mut [u8]) -> bool {
     let mut bench = Bench::fresh();
     // A proved loop has to end; no script has as many records.
     for records in 0..usize::MAX {
-        let record = match read_record(rt, space) {
-            Ok(record) => record,
+        let row = match read_record(rt, space) {
+            Ok(record) => bench.perform(
+                record.op,
+                front(space, record.length),
+                Row::of_op(record.code),
+            ),
             Err(ending) => return write_last(rt, ending, records),
         };
-        let payload = front(space, record.length);
-        if !bench
-            .perform(record.op, payload, Row::of_op(record.code))
-            .print(rt)
-        {
+        if !row.print(rt) {
             return false;
         }
     }

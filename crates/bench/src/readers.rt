@@ -1,12 +1,13 @@
 // The point reader.
-ghost use Rattle.std.specs.Prelude.{◌≤◌, length};
-
 use crate::buffer::{MOST_ROOM, UNTOUCHED, front, front_mut};
 use crate::number::number;
 use crate::row::Row;
 use link::Event;
 use reader::{Answer, Buffer, Last, Parameters, Reader, fresh_reader, to_send};
 use request::{CELL_LENGTH, HEADER_LENGTH, SETTINGS_LENGTH, header};
+
+// The bytes of a payload that tell a reader's state.
+const STATE_LENGTH: usize = 19;
 
 // A reader with its device header and its two buffers.
 #[derive(Clone, Copy)]
@@ -90,13 +91,13 @@ impl Device {
 
     // Payload: speed, parameter 05, parameter 80, has, identifier, command, length, fast. Puts no field.
     fn set_reader(&mut self, payload: &[u8], row: Row) -> Row {
-        if payload.len() < 19 {
+        let Some(state) = payload.first_chunk() else {
             return row.short();
-        }
+        };
         self.reader = Reader {
-            parameters: parameters(payload),
-            fast: payload[18] != 0,
-            memory: memory(payload),
+            parameters: parameters(state),
+            fast: state[18] != 0,
+            memory: memory(state),
         };
         row
     }
@@ -112,10 +113,10 @@ impl Device {
 
     // Payload: header. Puts no field.
     fn set_header(&mut self, payload: &[u8], row: Row) -> Row {
-        if payload.len() < HEADER_LENGTH {
+        let Some(header) = payload.first_chunk() else {
             return row.short();
-        }
-        self.header.copy_from_slice(&payload[..HEADER_LENGTH]);
+        };
+        self.header = *header;
         row
     }
 }
@@ -166,29 +167,25 @@ fn put_reader(reader: Reader, row: Row) -> Row {
     row.word(if reader.fast { b"fast" } else { b"slow" })
 }
 
-fn parameters(payload: &[u8]) -> Parameters
-    requires { 18 ≤ length payload.now }
-{
+fn parameters(state: &[u8; STATE_LENGTH]) -> Parameters {
     let mut settings = [0u8; SETTINGS_LENGTH];
-    settings.copy_from_slice(&payload[1..5]);
+    settings.copy_from_slice(&state[1..5]);
     let mut cell = [0u8; CELL_LENGTH];
-    cell.copy_from_slice(&payload[5..13]);
+    cell.copy_from_slice(&state[5..13]);
     Parameters {
-        speed: payload[0],
+        speed: state[0],
         settings,
         cell,
     }
 }
 
-fn memory(payload: &[u8]) -> Option<Last>
-    requires { 18 ≤ length payload.now }
-{
-    if payload[13] == 0 {
+fn memory(state: &[u8; STATE_LENGTH]) -> Option<Last> {
+    if state[13] == 0 {
         return None;
     }
     Some(Last {
-        identifier: payload[14],
-        command: payload[15],
-        length: number([payload[16], payload[17]]),
+        identifier: state[14],
+        command: state[15],
+        length: number([state[16], state[17]]),
     })
 }
