@@ -103,9 +103,9 @@ module _ (line : Line) where
         ap₂ (λ (a i : ℕ). going a (tape_of i Kind (with_receiver line u (with_receiver line s r))) d) left more
         ∙ ap₂ (λ (q : Receivers) (j : ℕ). going (room - length (text ++ w.text)) (tape_of (n + (1 + c)) Kind q) (drop j (b ∷ k ∷ l)))
         (with-receiver-with-receiver line s u r) (sym far) in
-        ap (λ (q : Went). record { tape = q.tape; taken = 1 + (1 + (2 * c - 1 + q.taken)); text = text ++ (w.text ++ q.text) }) same
-        ∙ ap₂ (λ (a : ℕ) (t : List ℕ). record { tape = g.tape; taken = a; text = t }) (omega arith)
-        (sym (append_assoc text w.text g.text))
+        ◌∙◌ {b = record { tape = g.tape; taken = 1 + (1 + (2 * c - 1 + g.taken)); text = text ++ (w.text ++ g.text) }}
+        (ap (λ (q : Went). record { tape = q.tape; taken = 1 + (1 + (2 * c - 1 + q.taken)); text = text ++ (w.text ++ q.text) }) same)
+        (ap₂ (λ (a : ℕ) (t : List ℕ). record { tape = g.tape; taken = a; text = t }) (omega arith) (sym (append_assoc text w.text g.text)))
 
     module _ (room : ℕ) (h : least_room ≤ room) where
       -- the first body
