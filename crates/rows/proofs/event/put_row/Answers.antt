@@ -18,58 +18,53 @@ use Rattle.rows.specs.Heads.{most_head, head_of}
 use Rattle.rows.proofs.Laws.Heads.{head-within, tail, row_is, length-row, tail-fits, tail-over, tail-some}
 use Rattle.rows.proofs.event.put_row.Goals as goal
 use Rattle.rows.proofs.event.put_row.Goals.{
-  After-lay_head,
   After-room-space,
   then-space-length-via-then-space-length,
   then-space-length-via-else-space-length+then-content-space,
 }
 
--- the row that is asked for, and its head, which has its places
-abbrev asked : After-lay_head → List ℕ
+-- the row that is asked for, and its head
+abbrev asked : After-room-space → List ℕ
 asked c = row c.args.number c.args.line (name_of (named (Some c.args.event))) c.args.content.now
 
-abbrev begins : After-lay_head → List ℕ
+abbrev begins : After-room-space → List ℕ
 begins c = head_of c.args.number c.args.line (named (Some c.args.event))
-
-within : (c : After-lay_head) → length (begins c) ≤ most_head
-within c = head-within c.args.number c.args.line (named (Some c.args.event)) (omega (arith, c.ranges))
 
 pub returns-in_err-length : goal.returns-in_err-length
 returns-in_err-length c =
-    let p = (goal.at.returns-in_err-length c).After-lay_head in
-    absurd (puts-some c.in_err-length.field-0.0 (last c.in_err-length.ensures) zero-le (within p))
+    let within = head-within c.args.number c.args.line (named (Some c.args.event)) (omega (arith, c.ranges)) in
+    absurd (puts-some c.in_err-length.field-0.0 (last c.in_err-length.ensures) zero-le within)
 
 -- the head stands at the front of its places; the room is what is left, and the row is its head and its tail
 record Measured (c : After-room-space) : Type 0 where
-  row-length : let p = (goal.at.overflow_add-length c).After-lay_head in
-      length (asked p) ≡ length (begins p) + length (tail c.args.content.now)
-  head-length : c.in_ok-length.length ≡ length (begins (goal.at.overflow_add-length c).After-lay_head)
-  head : take c.in_ok-length.length c.lay_head.new.head ≡ begins (goal.at.overflow_add-length c).After-lay_head
-  head-within : c.in_ok-length.length ≤ most_head
+  row-length : length (asked c) ≡ length (begins c) + length (tail c.args.content.now)
+  head-length : c.in_ok-length.length ≡ length (begins c)
+  head : take c.in_ok-length.length c.lay_head.new.head ≡ begins c
+  within : c.in_ok-length.length ≤ most_head
   room : c.room-space.result ≡ length c.args.out.now - c.args.at
 
 measured : (c : After-room-space) → Measured c
 measured c =
-    let p = (goal.at.overflow_add-length c).After-lay_head in
-    let lies = c.in_ok-length.ensures ∙ put-placed (begins p) (replicate most_head 0) 0 (within p) in
+    let within = head-within c.args.number c.args.line (named (Some c.args.event)) (omega (arith, c.ranges)) in
+    let lies = c.in_ok-length.ensures ∙ put-placed (begins c) (replicate most_head 0) 0 within in
     let ends = ap (λ (d : Ended). d.end) lies in
     record {
       row-length = length-row c.args.number c.args.line (named (Some c.args.event)) c.args.content.now;
       head-length = omega (arith, ends);
-      head = ap (λ (d : Ended). take d.end d.out) lies ∙ take-placed (begins p) (replicate most_head 0);
-      head-within = omega (arith, ends, within p);
+      head = ap (λ (d : Ended). take d.end d.out) lies ∙ take-placed (begins c) (replicate most_head 0);
+      within = omega (arith, ends, within);
       room = c.room-space.ensures;
     }
 
 pub overflow_add-length : goal.overflow_add-length
-overflow_add-length c = omega (arith, (measured c).head-within)
+overflow_add-length c = omega (arith, (measured c).within)
 
 pub returns-then-space-length : goal.returns-then-space-length
 returns-then-space-length c =
     let a = c.args in
     let p = (goal.at.returns-then-space-length c).After-room-space in
     let m = measured p in
-    sym (put_refused (asked (goal.at.overflow_add-length p).After-lay_head) a.out.now a.at
+    sym (put_refused (asked p) a.out.now a.at
     (elim c.then-space-length.branch [
       | then-space-length-via-then-space-length w ↦ omega (arith, m.row-length, m.head-length, m.room, tail-some a.content.now, w.if-space-length.true)
       | then-space-length-via-else-space-length+then-content-space w ↦
@@ -84,9 +79,9 @@ returns-then-space-length c =
 
 -- where both tests fail there is room for the whole row, and so for its parts
 record Fits (c : After-room-space) : Type 0 where
-  begun : length (begins (goal.at.overflow_add-length c).After-lay_head) ≤ length c.args.out.now - c.args.at
-  shown : length (begins (goal.at.overflow_add-length c).After-lay_head ++ pairs c.args.content.now) ≤ length c.args.out.now - c.args.at
-  whole : length (begins (goal.at.overflow_add-length c).After-lay_head ++ tail c.args.content.now) ≤ length c.args.out.now - c.args.at
+  begun : length (begins c) ≤ length c.args.out.now - c.args.at
+  shown : length (begins c ++ pairs c.args.content.now) ≤ length c.args.out.now - c.args.at
+  whole : length (begins c ++ tail c.args.content.now) ≤ length c.args.out.now - c.args.at
   starts : c.args.at ≤ length c.args.out.now
 
 fits : (c : After-room-space) → c.in_ok-length.length + 2 ≤ c.room-space.result
@@ -94,7 +89,7 @@ fits : (c : After-room-space) → c.in_ok-length.length + 2 ≤ c.room-space.res
     → Fits c
 fits c two three =
     let m = measured c in
-    let l = begins (goal.at.overflow_add-length c).After-lay_head in
+    let l = begins c in
     let content = c.args.content.now in
     let t = tail-fits content (c.room-space.result - c.in_ok-length.length) (omega arith) three in
     let p = length-append l (pairs content) in
@@ -108,11 +103,11 @@ fits c two three =
     }
 
 pub slice_bounds-head-end : goal.slice_bounds-head-end
-slice_bounds-head-end c = omega (arith, (measured (goal.at.slice_bounds-head-end c).After-room-space).head-within)
+slice_bounds-head-end c = omega (arith, (measured (goal.at.slice_bounds-head-end c).After-room-space).within)
 
 pub slice_bounds-put-end : goal.slice_bounds-put-end
 slice_bounds-put-end c =
-    sym (length-take-le _ _ (omega (arith, (measured (goal.at.slice_bounds-put-end c).After-room-space).head-within)))
+    sym (length-take-le _ _ (omega (arith, (measured (goal.at.slice_bounds-put-end c).After-room-space).within)))
 
 pub returns-in_err-begun : goal.returns-in_err-begun
 returns-in_err-begun c =
