@@ -1,7 +1,7 @@
 -- What the call that answers an event does, by the rows of its table, and its refusals.
 -- Assumes nothing.
 use mathlib.Core.Path.{◌≡◌, refl, sym, subst⁻¹, ◌∙◌}
-use mathlib.Core.Bool.{Bool, true, false, ◌&&◌, and-false, true≢false, false≢true}
+use mathlib.Core.Bool.{Bool, true, false, ◌&&◌, and-false, true≢false}
 use mathlib.Core.List.{List, ◌∷◌}
 use Prim.Native.Nat.{ℕ, ◌≤◌, ◌<◌}
 use native.Mathlib.Omega.{arith}
@@ -44,13 +44,13 @@ front-is address identifier code «data» few =
 -- ---- only a FRAME is answered
 
 frame_is : (event : Name) → is_frame event ≡ true → event ≡ FRAME
-frame_is NONE never = absurd (false≢true never)
+frame_is NONE never = cc
 frame_is FRAME is = refl
-frame_is CHECK never = absurd (false≢true never)
-frame_is SHORT never = absurd (false≢true never)
-frame_is LONG never = absurd (false≢true never)
-frame_is PAIR never = absurd (false≢true never)
-frame_is ADDR never = absurd (false≢true never)
+frame_is CHECK never = cc
+frame_is SHORT never = cc
+frame_is LONG never = cc
+frame_is PAIR never = cc
+frame_is ADDR never = cc
 
 pub no-frame : (event : Name) → (event ≡ FRAME → ⊥) → is_frame event ≡ false
 no-frame event other =

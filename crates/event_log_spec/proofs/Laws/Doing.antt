@@ -8,7 +8,7 @@ use native.Mathlib.Omega.{arith}
 use lib.Dec.{eqb}
 use lib.ListN.{length}
 use borrow.Author.Tests.{eqb-true, eqb-false, ne_eqb}
-use Rattle.ground.proofs.Laws.Choice.{cond-elim, no-case}
+use Rattle.ground.proofs.Laws.Choice.{cond-elim}
 use Rattle.event_log_spec.specs.declared.log.Doing.{Doing}
 use Rattle.event_log_spec.specs.declared.log.Doing.TheVariants.{Read, Delete, Restore, Clear, Nack}
 use Rattle.event_log_spec.specs.Doing.{unless_data, unless_none, doing, Known, read, delete, restore, clear, DoingTable, unknown, with_data, none_to_read, none_to_delete, reads, deletes, restores, clears}
@@ -27,7 +27,7 @@ module _ {code waiting : ℕ} where
   by-data : («data» : List ℕ) (d : Doing) → Known code → DoingTable code [] waiting d → DoingTable code «data» waiting (unless_data «data» d)
   by-data [] d known bare = bare
   by-data (b ∷ more) d known bare =
-      let some : b ∷ more ≡ [] → ⊥ = λ none. no-case (cc none) in
+      let some : b ∷ more ≡ [] → ⊥ = λ none. cc in
       subst⁻¹ (DoingTable code (b ∷ more) waiting) (nacks-data (b ∷ more) d some) (with_data known some)
 
   by-waiting : (d : Doing) → DoingTable code [] 0 (Nack 4) → ((waiting ≡ 0 → ⊥) → DoingTable code [] waiting d)
