@@ -18,23 +18,45 @@ use bench::Bench;
 use buffer::front;
 use row::Row;
 use script::{Ending, read_record};
+use std::io::Error;
 use std::process::ExitCode;
 use terminal::fail;
 
 // Room for the longest payload.
 const SPACE: usize = 65536;
 
-fn main(rt: HostRuntime) -> ExitCode {
-    let mut space = [0u8; SPACE];
-    if run(&rt, &mut space) {
-        ExitCode::SUCCESS
-    } else {
-        ExitCode::FAILURE
+// Why not all is read and written.
+#[derive(Clone, Copy)]
+enum Failure {
+    Read(Error),
+    Write(Error),
+    TooLong,
+}
+
+// Says what failed, and why.
+fn tell(rt: &HostRuntime, failure: Failure) {
+    match failure {
+        Failure::Read(error) => fail(rt, "bench: standard input", error),
+        Failure::Write(error) => fail(rt, "bench: standard output", error),
+        Failure::TooLong => {
+            let _ = eprintln!(rt; "bench: the script goes on after the most records that can be counted");
+        }
     }
 }
 
-// Does the records of the script, with `space` for a payload, and writes their rows; whether all was read and written.
-fn run(rt: &HostRuntime, space: &mut [u8]) -> bool {
+fn main(rt: HostRuntime) -> ExitCode {
+    let mut space = [0u8; SPACE];
+    match run(&rt, &mut space) {
+        Ok(()) => ExitCode::SUCCESS,
+        Err(failure) => {
+            tell(&rt, failure);
+            ExitCode::FAILURE
+        }
+    }
+}
+
+// Does the records of the script, with `space` for a payload, and writes their rows, and then the last row.
+fn run(rt: &HostRuntime, space: &mut [u8]) -> Result<(), Failure> {
     let mut bench = Bench::fresh();
     // A proved loop has to end; no script has as many records.
     for records in 0..usize::MAX {
@@ -44,28 +66,24 @@ fn run(rt: &HostRuntime, space: &mut [u8]) -> bool {
                 front(space, record.length),
                 Row::of_op(record.code),
             ),
-            Err(ending) => return write_last(rt, ending, records),
+            Err(ending) => return print(rt, last(ending, records)?),
         };
-        if !row.print(rt) {
-            return false;
-        }
+        print(rt, row)?;
     }
-    false
+    Err(Failure::TooLong)
 }
 
-// Writes the last row, after this many records; whether that went well. Where a read failed there is none, and standard error says why.
-fn write_last(rt: &HostRuntime, ending: Ending, records: usize) -> bool {
-    match ending {
-        Ending::End => print_last(rt, b"end", records),
-        Ending::Cut => print_last(rt, b"cut", records),
-        Ending::Bad => print_last(rt, b"bad", records),
-        Ending::Failed(error) => {
-            fail(rt, "bench: standard input", error);
-            false
-        }
-    }
+// The last row, after this many records. Where a read failed there is none.
+fn last(ending: Ending, records: usize) -> Result<Row, Failure> {
+    let word: &[u8] = match ending {
+        Ending::End => b"end",
+        Ending::Cut => b"cut",
+        Ending::Bad => b"bad",
+        Ending::Failed(error) => return Err(Failure::Read(error)),
+    };
+    Ok(Row::empty().with(word).number(records))
 }
 
-fn print_last(rt: &HostRuntime, ending: &[u8], records: usize) -> bool {
-    Row::empty().with(ending).number(records).print(rt)
+fn print(rt: &HostRuntime, row: Row) -> Result<(), Failure> {
+    row.print(rt).map_err(Failure::Write)
 }

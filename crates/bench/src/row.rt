@@ -1,8 +1,8 @@
 // The row that a record writes.
 use crate::buffer::{MOST_ROOM, front};
 use ground::{Refusal, number, put};
+use std::io;
 use std::io::Write;
-use terminal::fail;
 use text::{put_decimal, put_pairs};
 
 // Room for the longest row: an op, the reader's two buffers, each with a blank before it and three letters for each byte but the last, which
@@ -85,15 +85,9 @@ impl Row {
         self.word(b"short")
     }
 
-    // Ends the row and writes it; whether that went well.
-    pub(crate) fn print(self, rt: &HostRuntime) -> bool {
+    // Ends the row and writes it.
+    pub(crate) fn print(self, rt: &HostRuntime) -> io::Result<()> {
         let row = self.with(b"\n");
-        match rt.stdout().write_all(front(&row.letters, row.length)) {
-            Ok(()) => true,
-            Err(error) => {
-                fail(rt, "bench: standard output", error);
-                false
-            }
-        }
+        rt.stdout().write_all(front(&row.letters, row.length))
     }
 }

@@ -38,11 +38,11 @@ carries says = ap (λ (s : Said). s.length) says
 
 pub prove-unreachable-requires : goal.prove-unreachable-requires
 unfolding written
-prove-unreachable-requires c = c.if-prove.true (counts (rw c.in-Ok.is at c.write_point.ensures))
+prove-unreachable-requires c = c.if-prove.true (counts (rw c.in_ok-count.was at c.write_point.ensures))
 
 pub prove-unreachable-requires-2 : goal.prove-unreachable-requires-2
 unfolding written
 prove-unreachable-requires-2 c =
-    let two : length_told c.in-Ok-receive.heard.told ≡ 2 =
-    carries (hears (rw c.in-Ok.is at c.write_point.ensures) c.fresh_point.ensures (rw c.in-Ok-receive.is at c.receive.ensures)) in
+    let two : length_told c.in_ok-heard.heard.told ≡ 2 =
+    carries (hears (rw c.in_ok-count.was at c.write_point.ensures) c.fresh_point.ensures (rw c.in_ok-heard.was at c.receive.ensures)) in
     c.if-prove-2.true (rw c.in-Some.is at two)

@@ -119,11 +119,6 @@ pub placed-is : (bytes out : List ℕ) (at : ℕ) {end : ℕ} {o : List ℕ} →
     → record { refusal = 0; end = end; out = o } ≡ placed bytes out at
 placed-is bytes out at = ap₂ (λ (k : ℕ) (l : List ℕ). record { refusal = 0; end = k; out = l })
 
--- so a call's bytes lie in the buffer that it left, where there was room for them
-pub put-laid : (bytes out : List ℕ) (at : ℕ) {e : Ended} → e ≡ put bytes out at → length bytes ≤ length out - at
-    → e.out ≡ laid out at bytes
-put-laid bytes out at says fits = ap (λ (d : Ended). d.out) (says ∙ put-placed bytes out at fits)
-
 -- bytes that are refused change nothing
 pub put_keeps : (bytes out : List ℕ) (at : ℕ) → Keeps (put bytes out at).refusal out (put bytes out at).out
 unfolding put
@@ -152,14 +147,6 @@ placed-more x y out at begins = placed-is (x ++ y) out at (omega (arith, length-
 
 pub take-placed : (bytes out : List ℕ) → take (placed bytes out 0).end (placed bytes out 0).out ≡ bytes
 take-placed bytes out = rw (zero-add (length bytes)) (take-front out bytes)
-
--- bytes put to the front of a buffer: where there is room for them, what stands after them stays
-pub put-onto : {e : Ended} (bytes buffer : List ℕ) → e ≡ put bytes buffer 0 → length bytes ≤ length buffer → e.out ≡ onto bytes buffer
-put-onto bytes buffer says fits = put-laid bytes buffer 0 says (omega arith) ∙ laid-front buffer bytes
-
--- in a buffer of their length they are all there is
-pub put_whole : {e : Ended} (bytes buffer : List ℕ) → e ≡ put bytes buffer 0 → length bytes ≡ length buffer → e.out ≡ bytes
-put_whole bytes buffer says same = put-laid bytes buffer 0 says (omega arith) ∙ laid-whole buffer bytes (omega arith)
 
 -- ---- one part of a text after the other
 
