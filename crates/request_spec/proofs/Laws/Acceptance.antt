@@ -4,13 +4,14 @@ use mathlib.Core.Path.{◌≡◌, refl, sym, subst, subst⁻¹, ◌∙◌}
 use mathlib.Core.Bool.{true, false, cond}
 use mathlib.Core.List.{List, [], ◌∷◌}
 use mathlib.Mathlib.Logic.Function.Defs.{LeftInverse-Injective}
-use Prim.Native.Nat.{ℕ, ◌≤◌}
+use Prim.Native.Nat.{ℕ, ◌-◌, ◌≤◌}
 use native.Mathlib.Omega.{arith}
 use lib.Dec.{eqb}
-use lib.ListN.{length}
+use lib.ListN.{length, take, drop}
 use borrow.Author.Tests.{eqb-true}
 use Rattle.std.specs.Prelude.{Option, None, Some, Result, Ok, Err}
 use Rattle.ground.proofs.Laws.Choice.{cond-elim, or_elim, or-none}
+use Rattle.ground.proofs.Laws.Lists.{take_rest}
 use Rattle.link_spec.specs.Limits.{most_data}
 use Rattle.request_spec.specs.declared.parameter.Parameter.{Parameter}
 use Rattle.request_spec.specs.declared.parameter.Parameter.TheVariants.{Speed, Settings, Cell}
@@ -149,6 +150,13 @@ fits-command (read p) = tt
 fits-command marin = tt
 fits-command hid = tt
 fits-command motorola = tt
+
+-- a write's data as the code takes it apart: there is a first byte, and the rest is a value
+pub write-fits : {command : Command} {p : Parameter} («data» : List ℕ) → command ≡ Write p → FitsCommand command «data»
+    → (1 ≤ length «data») × (is_value_of p (take (length «data» - 1) (drop 1 «data»)) ≡ true)
+write-fits {p = p} «data» is fits =
+    let (least, value) = subst (λ (k : Command). FitsCommand k «data») is fits in
+    (least, subst⁻¹ (λ (l : List ℕ). is_value_of p l ≡ true) (take_rest «data» 1) value)
 
 -- each command has its code
 pub accepted-code : {code : ℕ} {«data» : List ℕ} {command : Command} → Accepts code «data» command → code ≡ command_code command

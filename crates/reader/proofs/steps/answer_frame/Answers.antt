@@ -1,25 +1,15 @@
 -- `steps::answer_frame`: the memory says whether it is step 3, and what this reader makes of code and data whether it is 4, 5 or 6.
 -- Assumes nothing.
-use mathlib.Core.Path.{◌≡◌, sym, ap, ◌∙◌}
-use Rattle.std.specs.Prelude.{Some, None, Result, Ok, Err}
+use mathlib.Core.Path.{sym, ◌∙◌}
+use Rattle.std.specs.Prelude.{Some, Ok, Err}
 use Rattle.ground.proofs.Laws.Lists.{take_rest}
-use Rattle.request_spec.specs.declared.command.Command.{Command}
-use Rattle.request_spec.specs.declared.command.Fault.{Fault}
-use Rattle.request_spec.specs.Replies.{identifier_of, command_of, data_of}
+use Rattle.request_spec.specs.Replies.{command_of}
 use Rattle.request_spec.proofs.Laws.Acceptance.{judged-as}
 use Rattle.reader_spec.specs.Speeds.{served}
-use Rattle.reader_spec.specs.State.{State, find}
-use Rattle.reader_spec.specs.Sending.{Buffers}
-use Rattle.reader_spec.specs.Answering.{Input, judged, framed}
 use Rattle.reader_spec.proofs.Laws.Speeds.{served-fits}
 use Rattle.reader_spec.proofs.Laws.Answering.{framed-by}
+use Rattle.reader.proofs.Laws.Answering.{framed-new}
 use Rattle.reader.proofs.steps.answer_frame.Goals as goal
-
--- a frame that repeats nothing, by what this reader makes of it: steps 4 to 6
-framed-new : {a : Result Command Fault} (s : State) (i : Input) (lent : Buffers) → find s.last (identifier_of i.content) (command_of i.content) ≡ None
-    → served s.fast (command_of i.content) (data_of i.content) ≡ a
-    → framed s i lent ≡ judged s i lent a
-framed-new s i lent found asked = framed-by s i lent found ∙ ap (judged s i lent) asked
 
 pub returns-in-Some : goal.returns-in-Some
 returns-in-Some c =

@@ -1,0 +1,2 @@
+-- The laws, each file with the noun that it speaks of.
+pub mod Answering

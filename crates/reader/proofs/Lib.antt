@@ -1,0 +1,2 @@
+-- The laws of this library, which stand for no one function.
+pub mod Laws
