@@ -1,6 +1,6 @@
 -- `line::hear`: at each turn, what is left of the piece gives, from the receiver and the sums so far, what the whole piece gives.
 -- Assumes nothing.
-use mathlib.Core.Path.{◌≡◌, refl, sym, ap, subst⁻¹, ◌∙◌}
+use mathlib.Core.Path.{◌≡◌, refl, sym, ap, ◌∙◌}
 use mathlib.Core.Bool.{true, false, not}
 use mathlib.Core.List.{List, [], ◌∷◌}
 use Prim.Native.Nat.{ℕ, ◌+◌, ◌<◌, zero-le}
@@ -30,7 +30,7 @@ use Rattle.link_spec.specs.Moves.{move_of, move_at}
 use Rattle.link_spec.specs.Station.{check_on, has_address}
 use Rattle.link_spec.specs.Receiving.{moved}
 use Rattle.link_spec.specs.Turning.{turn}
-use Rattle.link_spec.proofs.Laws.Turning.{Sound, turn-sound}
+use Rattle.link_spec.proofs.Laws.Turning.{keep-room}
 use Rattle.link_spec.proofs.Laws.Receiving.{good-count}
 use Rattle.link_spec.proofs.Laws.Unique.{same_move, same-ruling}
 use Rattle.tape_spec.specs.Limits.{most_records}
@@ -87,8 +87,8 @@ swept c =
 -- the turn was to keep a byte, so there is room for it
 room : (c : In-Keep) → c.match-phase.count < most_content
 room c =
-    subst⁻¹ (Sound c.match-phase.count) (turn_is (Keep c.in-Keep.byte) _ _ _ _ c.in-Keep.ensures)
-    (turn-sound c.args.receiver.station c.loop-taken.phase c.match-phase.count (get_or c.args.piece.now c.match-phase.taken 0))
+    keep-room c.args.receiver.station c.loop-taken.phase c.match-phase.count (get_or c.args.piece.now c.match-phase.taken 0)
+    (turn_is (Keep c.in-Keep.byte) _ _ _ _ c.in-Keep.ensures)
 
 -- what the stop byte tells
 told : (c : After-at_stop) → c.at_stop.result ≡ verdict (check_on c.args.receiver.station) (take c.match-phase.count c.match-phase.content)
