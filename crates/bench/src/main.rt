@@ -39,7 +39,9 @@ fn tell(rt: &HostRuntime, failure: Failure) {
         Failure::Read(error) => fail(rt, "bench: standard input", error),
         Failure::Write(error) => fail(rt, "bench: standard output", error),
         Failure::TooLong => {
-            let _ = eprintln!(rt; "bench: the script goes on after the most records that can be counted");
+            let _ = eprintln!(rt;
+                "bench: the script goes on after the most records that can be counted"
+            );
         }
     }
 }

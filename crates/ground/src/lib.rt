@@ -1,4 +1,4 @@
-// What every crate above stands on: refusals by their numbers, counts, bytes put into a lent buffer, and the lesser of two numbers.
+// What every crate above stands on: refusals with their numbers, bytes put into a lent buffer, and the lesser of two numbers.
 #![tactic(auto)]
 
 mod laying;

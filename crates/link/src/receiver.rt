@@ -16,7 +16,7 @@ struct Found {
 }
 
 // Takes the piece up to the first event in it, or all of it where there is none. Refuses a count over 64 and an address that no
-// station may have (BadState), and then leaves the receiver as it was.
+// station may have (BadState).
 #[tactic(auto, unfolding(link_spec::specs::Receiving::received))]
 pub fn receive(receiver: Receiver, piece: &[u8]) -> Result<Heard, Refusal>
     ensures { saying receiver result ≡ received receiver piece.now }

@@ -27,7 +27,7 @@ is_due p clock = p.wanted && leb p.due clock
 abbrev pub after_notice : Progress → ℕ → Progress
 after_notice p clock = record { wanted = p.wanted; shown = true; read = p.read; due = capped clock 1 }
 
--- the time, of what the C library's `time` answers; 0 where it cannot tell
+-- the time, of the whole seconds that a clock answers; 0 where that is below zero
 abbrev pub seconds : ℤ → ℕ
 seconds (pos n) = n
 seconds (negsuc n) = 0

@@ -60,7 +60,7 @@ pub fn after_notice(progress: Progress, clock: u64) -> Progress
     }
 }
 
-// The time that the C library's `time` answers; 0 where it cannot tell.
+// The time, of the whole seconds that a clock answers; 0 where that is below zero.
 pub fn seconds(answer: i64) -> u64
     ensures { result ≡ seconds_of answer }
 {

@@ -62,9 +62,9 @@ fn tell(rt: &HostRuntime, failure: Failure) {
 // Puts the row of a line at a place of `text`, which has room for the longest; where it ends.
 fn put_line(report: LineReport, text: &mut [u8], at: usize) -> usize
     requires { at + most_row ≤ length text.old }
-    ensures upper_bound { result ≤ at + most_row }
-    ensures value { result ≡ at + length (sums_row report.line report.sums) }
-    ensures text_after { text.new ≡ laid text.old at (sums_row report.line report.sums) }
+    ensures within { result ≤ at + most_row }
+    ensures ends { result ≡ at + length (sums_row report.line report.sums) }
+    ensures stands { text.new ≡ laid text.old at (sums_row report.line report.sums) }
 {
     at + write_sums(report.line, report.sums, &mut text[at..]).unwrap()
 }
@@ -72,8 +72,8 @@ fn put_line(report: LineReport, text: &mut [u8], at: usize) -> usize
 // Puts all rows of a report to the front of `text`; where they end.
 fn put_report(report: Report, text: &mut [u8]) -> usize
     requires { most_text ≤ length text.old }
-    ensures upper_bound { result ≤ length text.new }
-    ensures text_after { take result text.new ≡ report_text (reported_by (Ok report)) }
+    ensures within { result ≤ length text.new }
+    ensures stands { take result text.new ≡ report_text (reported_by (Ok report)) }
 {
     let title = write_title(text).unwrap();
     let first = put_line(report.first, text, title);

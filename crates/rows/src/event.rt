@@ -14,7 +14,7 @@ use text::{put_decimal, put_pairs};
 // Places for the longest head of a row: 10 digits, a letter, a name of 5 letters and 3 blanks.
 const MOST_HEAD: usize = 19;
 
-// Puts the row of what a receiver heard into `out` from the place `at` on, and answers where it ends; none where nothing happened. Refuses an
+// Puts the row of what a receiver heard into `out` from the place `at` on, and answers where it ends; where nothing happened nothing is put. Refuses an
 // `out` that ends before the row (NoRoom).
 pub fn put_heard(
     number: u32,

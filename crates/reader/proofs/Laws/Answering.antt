@@ -44,11 +44,11 @@ module _ (reader : Reader) (identifier code : ℕ) («data» header antenna stor
       → r ≡ Ok
       (record {
         reader =
-          record {
-            parameters = ps;
-            fast = reader.fast;
-            memory = Some (record { identifier = identifier; command = code; length = n });
-          };
+            record {
+              parameters = ps;
+              fast = reader.fast;
+              memory = Some (record { identifier = identifier; command = code; length = n });
+            };
         buffer = Out;
         length = n;
       })

@@ -32,11 +32,11 @@ lies c =
 pub overflow_add-result : goal.overflow_add-result
 overflow_add-result c = omega (arith, (lies c).short)
 
-pub returns-clause-upper_bound : goal.returns-clause-upper_bound
-returns-clause-upper_bound c = omega (arith, (lies c).short)
+pub returns-clause-within : goal.returns-clause-within
+returns-clause-within c = omega (arith, (lies c).short)
 
-pub returns-clause-value : goal.returns-clause-value
-returns-clause-value c = ap (λ (n : ℕ). c.args.at + n) (lies c).ends
+pub returns-clause-ends : goal.returns-clause-ends
+returns-clause-ends c = ap (λ (n : ℕ). c.args.at + n) (lies c).ends
 
-pub returns-clause-text_after : goal.returns-clause-text_after
-returns-clause-text_after c = (lies c).stands
+pub returns-clause-stands : goal.returns-clause-stands
+returns-clause-stands c = (lies c).stands

@@ -83,20 +83,20 @@ last c =
 pub overflow_add-result : goal.overflow_add-result
 overflow_add-result c = omega (arith, (last c).within)
 
-pub returns-clause-upper_bound : goal.returns-clause-upper_bound
-returns-clause-upper_bound c = omega (arith, (last c).within, (last c).kept)
+pub returns-clause-within : goal.returns-clause-within
+returns-clause-within c = omega (arith, (last c).within, (last c).kept)
 
-pub returns-clause-text_after : goal.returns-clause-text_after
+pub returns-clause-stands : goal.returns-clause-stands
 unfolding report_text
-returns-clause-text_after c =
+returns-clause-stands c =
     let r = c.args.report in
     let text = c.args.text.now in
     let f = c.put_line-first in
     let s = c.put_line-second in
-    let t = titled (goal.at.returns-clause-text_after c).After-unwrap-title in
+    let t = titled (goal.at.returns-clause-stands c).After-unwrap-title in
     let l = last c in
-    let with_first = front-more text title_row (first_row r) t.front f.ensures.value f.ensures.text_after in
-    let with_second = front-more text (title_row ++ first_row r) (second_row r) with_first s.ensures.value s.ensures.text_after in
+    let with_first = front-more text title_row (first_row r) t.front f.ensures.ends f.ensures.stands in
+    let with_second = front-more text (title_row ++ first_row r) (second_row r) with_first s.ensures.ends s.ensures.stands in
     let lines = (title_row ++ first_row r) ++ second_row r in
     let whole = front-more text lines (end_row r) with_second (ap (λ (n : ℕ). s.result + n) l.ends) l.stands in
     take-of-front text (lines ++ end_row r) whole ∙ simp append_assoc

@@ -13,7 +13,7 @@ use Rattle.checks.specs.declared.table.TheConstants.{TABLE}
 use Rattle.checks.proofs.register.residue.Goals as goal
 
 -- the table's entries are the eight shift steps of their places
-worked-out : WorkedOut (shift_steps 8) TABLE
+pub worked-out : WorkedOut (shift_steps 8) TABLE
 unfolding shift_step shift_steps
 worked-out = record { test = refl }
 
