@@ -119,6 +119,11 @@ pub placed-is : (bytes out : List ℕ) (at : ℕ) {end : ℕ} {o : List ℕ} →
     → record { refusal = 0; end = end; out = o } ≡ placed bytes out at
 placed-is bytes out at = ap₂ (λ (k : ℕ) (l : List ℕ). record { refusal = 0; end = k; out = l })
 
+-- so a call's bytes lie in the buffer that it left, where there was room for them
+pub put-laid : (bytes out : List ℕ) (at : ℕ) {e : Ended} → e ≡ put bytes out at → length bytes ≤ length out - at
+    → e.out ≡ laid out at bytes
+put-laid bytes out at says fits = ap (λ (d : Ended). d.out) (says ∙ put-placed bytes out at fits)
+
 -- bytes that are refused change nothing
 pub put_keeps : (bytes out : List ℕ) (at : ℕ) → Keeps (put bytes out at).refusal out (put bytes out at).out
 unfolding put
@@ -148,24 +153,32 @@ placed-more x y out at begins = placed-is (x ++ y) out at (omega (arith, length-
 pub take-placed : (bytes out : List ℕ) → take (placed bytes out 0).end (placed bytes out 0).out ≡ bytes
 take-placed bytes out = rw (zero-add (length bytes)) (take-front out bytes)
 
+-- bytes put to the front of a buffer: where there is room for them, what stands after them stays
+pub put-onto : {e : Ended} (bytes buffer : List ℕ) → e ≡ put bytes buffer 0 → length bytes ≤ length buffer → e.out ≡ onto bytes buffer
+put-onto bytes buffer says fits = put-laid bytes buffer 0 says (omega arith) ∙ laid-front buffer bytes
+
+-- in a buffer of their length they are all there is
+pub put_whole : {e : Ended} (bytes buffer : List ℕ) → e ≡ put bytes buffer 0 → length bytes ≡ length buffer → e.out ≡ bytes
+put_whole bytes buffer says same = put-laid bytes buffer 0 says (omega arith) ∙ laid-whole buffer bytes (omega arith)
+
 -- ---- one part of a text after the other
 
 -- Calls that put one part of a text after the other, from a place of a buffer on, and what the last of them answers and leaves.
 pub data Puts : List ℕ → ℕ → List ℕ → Ended → Type 0 where
   last : {out : List ℕ} {at : ℕ} {x : List ℕ} {e : Ended} → e ≡ put x out at → Puts out at x e
-  then : {out : List ℕ} {at : ℕ} {y : List ℕ} {e : Ended} (x : List ℕ) (end : ℕ) (o : List ℕ)
-      → record { refusal = 0; end = end; out = o } ≡ put x out at → Puts o end y e → Puts out at (x ++ y) e
+  then : {out : List ℕ} {at : ℕ} {y : List ℕ} {e : Ended} (x : List ℕ) (s : Ended)
+      → s ≡ put x out at → Puts s.out s.end y e → Puts out at (x ++ y) e
 
 -- where there is room for the whole text, they put the whole text
 pub puts-placed : {out : List ℕ} {at : ℕ} {text : List ℕ} {e : Ended} → Puts out at text e → at ≤ length out → length text ≤ length out - at
     → e ≡ placed text out at
 puts-placed {out} {at} {text} (last says) begins fits = says ∙ put-placed text out at fits
-puts-placed {out} {at} (then {y} x k o says more) begins fits =
+puts-placed {out} {at} (then {y} x s says more) begins fits =
     let n : length (x ++ y) ≡ length x + length y = length-append x y in
     let first = says ∙ put-placed x out at (omega arith) in
-    let end : k ≡ at + length x = ap (λ (d : Ended). d.end) first in
-    let lies : o ≡ laid out at x = ap (λ (d : Ended). d.out) first in
-    let same : length o ≡ length out = ap length lies ∙ length-laid out at x (omega arith) in
+    let end : s.end ≡ at + length x = ap (λ (d : Ended). d.end) first in
+    let lies : s.out ≡ laid out at x = ap (λ (d : Ended). d.out) first in
+    let same : length s.out ≡ length out = ap length lies ∙ length-laid out at x (omega arith) in
     puts-placed more (omega arith) (omega arith)
     ∙ ap₂ (placed y) lies end
     ∙ placed-more x y out at begins

@@ -36,7 +36,7 @@ returns-in_err-said c =
 pub returns-in_err-counted : goal.returns-in_err-counted
 returns-in_err-counted c =
     let fits = parts-within c.args.ending c.args.records (omega (arith, c.ranges)) in
-    absurd (puts-some c.in_err-counted.field-0.0 (then _ _ _ (rw c.word.ensures at c.in_ok-said.ensures) (last c.in_err-counted.ensures)) zero-le
+    absurd (puts-some c.in_err-counted.field-0.0 (then _ _ (rw c.word.ensures at c.in_ok-said.ensures) (last c.in_err-counted.ensures)) zero-le
     fits.1)
 
 pub returns-in_err-length : goal.returns-in_err-length
@@ -44,7 +44,7 @@ unfolding ascii last_row
 returns-in_err-length c =
     let fits = parts-within c.args.ending c.args.records (omega (arith, c.ranges)) in
     absurd (puts-some c.in_err-length.field-0.0
-    (then _ _ _ (rw c.word.ensures at c.in_ok-said.ensures) (then _ _ _ c.in_ok-counted.ensures (last c.in_err-length.ensures))) zero-le fits.2)
+    (then _ _ (rw c.word.ensures at c.in_ok-said.ensures) (then _ _ c.in_ok-counted.ensures (last c.in_err-length.ensures))) zero-le fits.2)
 
 -- the row was put to the front of its places, part after part, and stands there
 stands : (c : In_ok-length) → (c.in_ok-length.length ≤ length c.put-2.new.out)
@@ -54,7 +54,7 @@ stands c =
     let row = last_row c.args.ending c.args.records in
     let fits = (parts-within c.args.ending c.args.records (omega (arith, c.ranges))).2 in
     let lies =
-    puts-placed (then _ _ _ (rw c.word.ensures at c.in_ok-said.ensures) (then _ _ _ c.in_ok-counted.ensures (last c.in_ok-length.ensures))) zero-le
+    puts-placed (then _ _ (rw c.word.ensures at c.in_ok-said.ensures) (then _ _ c.in_ok-counted.ensures (last c.in_ok-length.ensures))) zero-le
     fits in
     subst⁻¹ (λ (d : Ended). (d.end ≤ length d.out) × (take d.end d.out ≡ row)) lies
     (omega (arith, length-laid (replicate most_last 0) 0 row (omega (arith, fits)), fits), take-placed row (replicate most_last 0))

@@ -20,7 +20,7 @@ returns-in_err-begun c = absurd (puts-some c.in_err-begun.field-0.0 (last c.in_e
 pub returns-in_err-counted : goal.returns-in_err-counted
 returns-in_err-counted c =
     let read = c.args.read in
-    absurd (puts-some c.in_err-counted.field-0.0 (then (carriage_return ∷ []) _ _ c.in_ok-begun.ensures (last {x = decimal read} c.in_err-counted.ensures)) zero-le
+    absurd (puts-some c.in_err-counted.field-0.0 (then (carriage_return ∷ []) _ c.in_ok-begun.ensures (last {x = decimal read} c.in_err-counted.ensures)) zero-le
     (omega (arith, length_digits read)))
 
 pub returns : goal.returns
@@ -30,7 +30,7 @@ returns c =
     sym (out-ended _ c.put-2.result c.put-2.new.out)
     ∙ ap (λ (e : Ended). e.out)
     (puts-placed
-    (then (carriage_return ∷ []) _ _ c.in_ok-begun.ensures (then (decimal a.read) _ _ c.in_ok-counted.ensures (last c.put-2.ensures)))
+    (then (carriage_return ∷ []) _ c.in_ok-begun.ensures (then (decimal a.read) _ c.in_ok-counted.ensures (last c.put-2.ensures)))
     zero-le
     (omega (arith, words-within a.read)))
     ∙ laid-front a.text.now (carriage_return ∷ words a.read)

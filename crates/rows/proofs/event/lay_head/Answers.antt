@@ -34,7 +34,7 @@ pub returns-in_err-lettered : goal.returns-in_err-lettered
 returns-in_err-lettered c =
     let a = c.args in
     let fits = parts-within a.number a.line (named (Some a.event)) (omega (arith, c.ranges)) in
-    absurd (puts-some c.in_err-lettered.field-0.0 (then _ _ _ c.in_ok-counted.ensures (last (rw c.letter.ensures at c.in_err-lettered.ensures))) zero-le
+    absurd (puts-some c.in_err-lettered.field-0.0 (then _ _ c.in_ok-counted.ensures (last (rw c.letter.ensures at c.in_err-lettered.ensures))) zero-le
     (omega (arith, fits)))
 
 pub returns : goal.returns
@@ -42,6 +42,6 @@ returns c =
     let a = c.args in
     let fits = parts-within a.number a.line (named (Some a.event)) (omega (arith, c.ranges)) in
     puts-whole c.in_ok-lettered.lettered c.put-2.result c.put-2.new.out
-    (then _ _ _ c.in_ok-counted.ensures
-    (then _ _ _ (rw c.letter.ensures at c.in_ok-lettered.ensures)
+    (then _ _ c.in_ok-counted.ensures
+    (then _ _ (rw c.letter.ensures at c.in_ok-lettered.ensures)
     (last (rw c.name.ensures at c.put-2.ensures)))) zero-le (omega (arith, fits))

@@ -119,7 +119,7 @@ pub returns-in_err-shown : goal.returns-in_err-shown
 returns-in_err-shown c =
     let p = (goal.at.returns-in_err-shown c).After-room-space in
     let f = fits p c.if-space-length.false c.if-content-space.false in
-    absurd (puts-some c.in_err-shown.field-0.0 (then _ _ _ (rw (measured p).head at c.in_ok-begun.ensures) (last c.in_err-shown.ensures)) f.starts
+    absurd (puts-some c.in_err-shown.field-0.0 (then _ _ (rw (measured p).head at c.in_ok-begun.ensures) (last c.in_err-shown.ensures)) f.starts
     f.shown)
 
 pub returns : goal.returns
@@ -129,5 +129,5 @@ returns c =
     let p = (goal.at.returns c).After-room-space in
     let f = fits p c.if-space-length.false c.if-content-space.false in
     puts-whole c.in_ok-shown.shown c.put-2.result c.put-2.new.out
-    (then _ _ _ (rw (measured p).head at c.in_ok-begun.ensures) (then _ _ _ c.in_ok-shown.ensures (last c.put-2.ensures))) f.starts f.whole
+    (then _ _ (rw (measured p).head at c.in_ok-begun.ensures) (then _ _ c.in_ok-shown.ensures (last c.put-2.ensures))) f.starts f.whole
     ∙ ap (λ (w : List ℕ). put w a.out.now a.at) (row_is a.number a.line (named (Some a.event)) a.content.now)
