@@ -2,7 +2,8 @@
 -- Assumes nothing.
 use mathlib.Core.Path.{◌≡◌, refl, ap, ◌∙◌}
 use mathlib.Core.List.{List}
-use Prim.Native.Nat.{ℕ, ◌+◌}
+use Prim.Native.Nat.{ℕ, ◌+◌, ◌≤◌}
+use lib.Dec.{lit≤}
 use lib.ListN.{length, length-append}
 use Rattle.checks.specs.declared.kind.Check.{Check}
 use Rattle.checks.specs.declared.kind.Check.TheVariants.{Fcs, Sum}
@@ -13,6 +14,11 @@ pub length-check : (check : Check) (front : List ℕ) → length (check_of check
 unfolding check_of fcs_bytes
 length-check Fcs front = refl
 length-check Sum front = refl
+
+-- no check is longer than the FCS
+pub check-most : (check : Check) → check_length check ≤ 2
+check-most Fcs = lit≤ tt
+check-most Sum = lit≤ tt
 
 pub length-with_check : (check : Check) (front : List ℕ) → length (with_check check front) ≡ length front + check_length check
 unfolding with_check

@@ -1,17 +1,21 @@
 -- Laws of a right check: a content whose check is right is what stands before it, with its check.
 -- Assumes nothing.
 use mathlib.Core.Path.{◌≡◌, refl, sym, ap, ap₂, ◌∙◌}
-use mathlib.Core.Bool.{Bool, true, false, ◌&&◌, and-eq-true_iff, false≢true}
+use mathlib.Core.Bool.{Bool, true, false, ◌&&◌, and-true, and-eq-true_iff, false≢true}
 use mathlib.Core.List.{List, [], ◌∷◌, ◌++◌}
-use Prim.Native.Nat.{ℕ, ◌+◌, ◌-◌, ◌<◌}
+use Prim.Native.Nat.{ℕ, ◌+◌, ◌-◌, ◌/◌, ◌%◌, ◌<◌}
 use native.Mathlib.Omega.{arith}
 use lib.Dec.{eqb}
 use lib.Pointwise.{pointwise}
-use lib.ListN.{length, take, drop, take-append-drop, length-drop}
+use lib.ListN.{length, take, drop, get_or, take-append-drop, length-drop, drop_of_length-le}
 use lib.Seq.{take-append_seam, drop-append_seam, take_at}
-use borrow.Author.Tests.{eqb-true, eq-eqb}
+use borrow.Author.Tests.{eqb-true, eq-eqb, ne_eqb}
 use Rattle.ground.proofs.Laws.Choice.{by-test}
+use Rattle.ground.proofs.Laws.Lists.{drop-next}
 use Rattle.checks.specs.declared.kind.Check.{Check}
+use Rattle.checks.specs.declared.kind.Check.TheVariants.{Fcs, Sum}
+use Rattle.checks.specs.Fcs.{fcs, fcs_bytes}
+use Rattle.checks.specs.Sum.{sum}
 use Rattle.checks.specs.Check.{check_of, check_length, with_check, front, came, alike, is_right}
 use Rattle.checks.proofs.Laws.Check.{length-check, length-with_check}
 
@@ -67,6 +71,30 @@ module _ (check : Check) (content : List ℕ) where
   right-with_check right =
       let k = length content - check_length check in
       sym (take-append-drop k content) ∙ ap (λ (l : List ℕ). take k content ++ l) (alike_same _ _ right)
+
+-- on each line, byte for byte
+module _ (content : List ℕ) (k v : ℕ) where
+  right-fcs : k + 2 ≡ length content → v ≡ fcs (take k content)
+      → eqb (get_or content k 0) (v % 0x100) && eqb (get_or content (k + 1) 0) (v / 0x100) ≡ is_right Fcs content
+  unfolding check_of fcs_bytes alike
+  right-fcs e is =
+      let last : drop (k + 1 + 1) content ≡ [] = drop_of_length-le content {i = k + 1 + 1} (omega arith) in
+      sym
+      (right-at Fcs content k e
+      ∙ rw (drop-next content k (omega arith), drop-next content (k + 1) (omega arith), last, and-true, ← is))
+
+  pub low-wrong : k + 2 ≡ length content → v ≡ fcs (take k content) → (get_or content k 0 ≡ v % 0x100 → ⊥) → false ≡ is_right Fcs content
+  low-wrong e is wrong = rw (ne_eqb (get_or content k 0) (v % 0x100) wrong) at (right-fcs e is)
+
+  pub low-right : k + 2 ≡ length content → v ≡ fcs (take k content) → get_or content k 0 ≡ v % 0x100
+      → eqb (get_or content (k + 1) 0) (v / 0x100) ≡ is_right Fcs content
+  low-right e is right = rw (eq-eqb (get_or content k 0) (v % 0x100) right) at (right-fcs e is)
+
+  pub right-sum : k + 1 ≡ length content → v ≡ sum (take k content) → eqb (get_or content k 0) v ≡ is_right Sum content
+  unfolding check_of alike
+  right-sum e is =
+      let last : drop (k + 1) content ≡ [] = drop_of_length-le content {i = k + 1} (omega arith) in
+      sym (right-at Sum content k e ∙ rw (drop-next content k (omega arith), last, and-true, ← is))
 
 module _ (check : Check) (f : List ℕ) where
   -- what stands before the check of a content is that which got it

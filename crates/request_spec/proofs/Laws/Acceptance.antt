@@ -1,13 +1,13 @@
 -- What is accepted is the table of the paper, and nothing else is.
 -- Assumes nothing.
-use mathlib.Core.Path.{◌≡◌, refl, sym, subst, subst⁻¹, ◌∙◌}
-use mathlib.Core.Bool.{true, false, cond}
+use mathlib.Core.Path.{◌≡◌, refl, sym, ap, subst, subst⁻¹, ◌∙◌}
+use mathlib.Core.Bool.{Bool, true, false, cond}
 use mathlib.Core.List.{List, [], ◌∷◌}
 use mathlib.Mathlib.Logic.Function.Defs.{LeftInverse-Injective}
 use Prim.Native.Nat.{ℕ, ◌-◌, ◌≤◌}
 use native.Mathlib.Omega.{arith}
 use lib.Dec.{eqb}
-use lib.ListN.{length, take, drop}
+use lib.ListN.{length, get_or, take, drop}
 use borrow.Author.Tests.{eqb-true}
 use Rattle.std.specs.Prelude.{Option, None, Some, Result, Ok, Err}
 use Rattle.ground.proofs.Laws.Choice.{cond-elim, or_elim, or-none}
@@ -23,6 +23,42 @@ use Rattle.request_spec.specs.declared.command.Fault.TheVariants.{UnknownCode, B
 use Rattle.request_spec.specs.Parameters.{parameter_code, parameter_with, is_value_of, of_speed}
 use Rattle.request_spec.specs.Acceptance.{bare_accepted, write_accepted_to, write_accepted, read_accepted_from, read_accepted, is_known, acceptance, command_code, Judgement, by_code, by_codes, by_number, judgement, FitsCommand, Accepts, header, write, read, marin, hid, motorola}
 use Rattle.request_spec.proofs.Laws.Parameters.{parameter-with, value-sizes, length_of-most, value-is}
+
+-- ---- data as the code reads it: by its length and its places
+
+pub bare-none : (command : Command) («data» : List ℕ) → length «data» ≡ 0 → Ok command ≡ bare_accepted command «data»
+bare-none command [] none = refl
+bare-none command (b ∷ more) none = absurd (omega arith)
+
+pub bare-some : (command : Command) («data» : List ℕ) → (length «data» ≡ 0 → ⊥) → Err BadData ≡ bare_accepted command «data»
+bare-some command [] some = absurd (some refl)
+bare-some command (b ∷ more) some = refl
+
+pub write-none : («data» : List ℕ) → length «data» ≡ 0 → Err BadData ≡ write_accepted «data»
+write-none [] none = refl
+write-none (b ∷ more) none = absurd (omega arith)
+
+pub write-some : {coded : Option Parameter} («data» : List ℕ) → (length «data» ≡ 0 → ⊥) → parameter_with (get_or «data» 0 0) ≡ coded
+    → write_accepted_to coded (drop 1 «data») ≡ write_accepted «data»
+write-some [] some known = absurd (some refl)
+write-some (code ∷ value) some known = ap (λ (k : Option Parameter). write_accepted_to k value) (sym known)
+
+pub write-value : {p : Parameter} {t : Bool} («data» : List ℕ) → (length «data» ≡ 0 → ⊥) → parameter_with (get_or «data» 0 0) ≡ Some p
+    → is_value_of p (drop 1 «data») ≡ t
+    → cond t (Ok (Write p)) (Err BadData) ≡ write_accepted «data»
+write-value {p} «data» some known taken =
+    ap (λ (t : Bool). cond t (Ok (Write p)) (Err BadData)) (sym taken) ∙ write-some «data» some known
+
+pub read-other : («data» : List ℕ) → (length «data» ≡ 1 → ⊥) → Err BadData ≡ read_accepted «data»
+read-other [] other = refl
+read-other (code ∷ []) other = absurd (other refl)
+read-other (code ∷ b ∷ more) other = refl
+
+pub read_one : {coded : Option Parameter} («data» : List ℕ) → length «data» ≡ 1 → parameter_with (get_or «data» 0 0) ≡ coded
+    → read_accepted_from coded ≡ read_accepted «data»
+read_one [] one known = absurd (omega arith)
+read_one (code ∷ []) one known = ap read_accepted_from (sym known)
+read_one (code ∷ b ∷ more) one known = absurd (omega arith)
 
 -- ---- what is accepted is a row of the table
 

@@ -2,14 +2,21 @@
 -- Assumes nothing.
 use mathlib.Core.Path.{◌≡◌, sym, ap, ap₂, ◌∙◌}
 use mathlib.Core.List.{List, [], ◌∷◌, ◌++◌, append_assoc}
-use Prim.Native.Nat.{ℕ, ◌+◌, ◌*◌, ◌^◌, ◌<◌}
+use Prim.Native.Nat.{ℕ, ◌+◌, ◌*◌, ◌^◌, ◌≤◌, ◌<◌}
 use native.Mathlib.Omega.{arith}
-use lib.ListN.{length, drop, length-append}
+use lib.ListN.{length, drop, set, length-append}
 use Rattle.std.proofs.lemmas.Nat.{from_le_bytes-to_le_bytes_4}
 use Rattle.ground.specs.Laying.{laid}
-use Rattle.ground.proofs.Laws.Laying.{laid-after, laid-front, laid-whole}
+use Rattle.ground.proofs.Laws.Laying.{laid-after, laid-front, laid-whole, set_after, set-two}
 use Rattle.request_spec.specs.Limits.{header_length, name_length}
 use Rattle.request_spec.specs.Header.{low_first, header}
+
+pub set-four : (l : List ℕ) (at a b c d : ℕ) → at + 4 ≤ length l
+    → set (set (set (set l at a) (at + 1) b) (at + 2) c) (at + 3) d ≡ laid l at (a ∷ b ∷ c ∷ d ∷ [])
+set-four l at a b c d h =
+    ap (λ (m : List ℕ). set (set m (at + 2) c) (at + 3) d) (set-two l at a b (omega arith))
+    ∙ ap (λ (m : List ℕ). set m (at + 3) d) (set_after l at (a ∷ b ∷ []) c (omega arith))
+    ∙ set_after l at (a ∷ b ∷ c ∷ []) d (omega arith)
 
 -- what is laid after what stands in front stands there
 pub laid-at-end : {m m' : List ℕ} (l x y : List ℕ) (at : ℕ) → m ≡ laid l 0 x → length x ≡ at → m' ≡ laid m at y → m' ≡ laid l 0 (x ++ y)

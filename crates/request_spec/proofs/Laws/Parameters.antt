@@ -1,14 +1,14 @@
 -- Laws of the parameters.
 -- Assumes nothing.
 use mathlib.Core.Path.{◌≡◌, refl, sym, ap, ◌∙◌}
-use mathlib.Core.Bool.{true, and-eq-true_iff}
+use mathlib.Core.Bool.{true, false, and-eq-true_iff}
 use mathlib.Core.List.{List, [], ◌∷◌}
 use mathlib.Core.Logic.{◌↔◌}
-use Prim.Native.Nat.{ℕ, ◌≤◌}
+use Prim.Native.Nat.{ℕ, ◌≤◌, ◌<◌}
 use native.Mathlib.Omega.{arith}
 use lib.Dec.{eqb}
 use lib.ListN.{length}
-use borrow.Author.Tests.{eqb-true, eq-eqb}
+use borrow.Author.Tests.{eqb-true, eq-eqb, ne_eqb}
 use Rattle.std.specs.Prelude.{Option, Some}
 use Rattle.std.specs.Option.{unwrap_or}
 use Rattle.ground.proofs.Laws.Choice.{between-true, between_is}
@@ -16,7 +16,12 @@ use Rattle.request_spec.specs.declared.parameter.Parameter.{Parameter}
 use Rattle.request_spec.specs.declared.parameter.Parameter.TheVariants.{Speed, Settings, Cell}
 use Rattle.request_spec.specs.Parameters.{parameter_code, parameter_with, length_of, in_range, is_value_of, IsValue, of_speed, of_settings, of_cell}
 
--- a value has at most 8 bytes
+-- a value has 1 to 8 bytes
+pub length_of-least : (p : Parameter) → 0 < length_of p
+length_of-least Speed = omega arith
+length_of-least Settings = omega arith
+length_of-least Cell = omega arith
+
 pub length_of-most : (p : Parameter) → length_of p ≤ 8
 length_of-most Speed = omega arith
 length_of-most Settings = omega arith
@@ -34,6 +39,16 @@ value-within p value taken = ((and-eq-true_iff (eqb (length value) (length_of p)
 
 pub value-length : {p q : Parameter} (value : List ℕ) → p ≡ q → is_value_of p value ≡ true → length value ≡ length_of q
 value-length {p} value same taken = value-sizes p value taken ∙ ap length_of same
+
+-- the length is tried first
+pub value-other : {n : ℕ} (p : Parameter) (value : List ℕ) → n ≡ length_of p → (length value ≡ n → ⊥) → false ≡ is_value_of p value
+unfolding is_value_of
+value-other p value long other = rw (ne_eqb (length value) (length_of p) (λ e. other (e ∙ sym long)))
+
+pub value-sized : {n : ℕ} {p q : Parameter} (value : List ℕ) → p ≡ q → n ≡ length_of p → length value ≡ n → in_range q value ≡ is_value_of p value
+unfolding is_value_of
+value-sized {p} value same long whole =
+    ap (λ (r : Parameter). in_range r value) (sym same) ∙ rw (eq-eqb (length value) (length_of p) (whole ∙ long))
 
 -- a value is one by the table
 pub value-is : (p : Parameter) (value : List ℕ) → (is_value_of p value ≡ true) ↔ IsValue p value

@@ -16,55 +16,83 @@ use Rattle.request_spec.specs.declared.parameter.Parameter.TheVariants.{Speed, S
 use Rattle.request_spec.specs.declared.command.Command.{Command}
 use Rattle.request_spec.specs.declared.command.Fault.{Fault}
 use Rattle.request_spec.specs.Acceptance.{acceptance, Accepts, header, write, read, marin, hid, motorola}
-use Rattle.request_spec.specs.Replies.{ACK, NACK, DATA, sign, ack_byte, front_of}
-use Rattle.request_spec.specs.Reading.{Understood, not_read, has_read, is_due, sign_read, data_read, read_as, read_by, reply_read, is_write, is_nack, reason_read, Due, for_header, for_speed, for_settings, for_cell, for_marin, for_hid, for_motorola, ByReply, empty, other_identifier, no_command, other_command, echo, data_length, sign_length, other_reason, ack_for_data, ack, nack, bytes, MasterTable, bad_request, acceptable}
+use Rattle.request_spec.specs.Replies.{ACK, NACK, DATA, sign, ack_byte, identifier_of, command_of, data_of, front_of}
+use Rattle.request_spec.specs.Reading.{Understood, not_read, has_read, is_due, wrong_id, is_sign, sign_read, data_read, read_as, read_by, reply_read, is_write, is_nack, reason_read, Due, for_header, for_speed, for_settings, for_cell, for_marin, for_hid, for_motorola, ByReply, empty, other_identifier, no_command, other_command, echo, data_length, sign_length, other_reason, ack_for_data, ack, nack, bytes, MasterTable, bad_request, acceptable}
 use Rattle.request_spec.proofs.Laws.Acceptance.{accepts, accepted}
 
--- a first byte is there, and so is a second
-some : (b : ℕ) (more : List ℕ) → eqb (length (b ∷ more)) 0 ≡ false
-some b more = ne_eqb (length (b ∷ more)) 0 (λ e. absurd (omega (arith, e)))
-
-two : (a b : ℕ) (more : List ℕ) → eqb (length (a ∷ b ∷ more)) 1 ≡ false
-two a b more = ne_eqb (length (a ∷ b ∷ more)) 1 (λ e. absurd (omega (arith, e)))
-
-module _ (identifier code : ℕ) (asks : Command) where
+module _ (identifier code : ℕ) (reply : List ℕ) (asks : Command) where
   -- row 6
-  empty-refused : read_as identifier code [] asks ≡ not_read WrongId
+  pub refuses-empty : length reply ≡ 0 → read_as identifier code reply asks ≡ not_read WrongId
   unfolding read_as
-  empty-refused = refl
+  refuses-empty none = simp none
 
+  pub refuses-identifier : (length reply ≡ 0 → ⊥) → (identifier_of reply ≡ identifier → ⊥)
+      → read_as identifier code reply asks ≡ not_read WrongId
+  unfolding read_as
+  refuses-identifier some other = rw (ne_eqb (length reply) 0 some, ne_eqb (identifier_of reply) identifier other)
+
+  module _ (some : length reply ≡ 0 → ⊥) (own : identifier_of reply ≡ identifier) where
+    id-own : wrong_id identifier reply ≡ false
+    id-own = rw (ne_eqb (length reply) 0 some, eq-eqb (identifier_of reply) identifier own)
+
+    -- row 7
+    pub refuses-absent : length reply ≡ 1 → read_as identifier code reply asks ≡ not_read WrongCommand
+    unfolding read_as
+    refuses-absent one = rw (id-own, eq-eqb (length reply) 1 one)
+
+    module _ (more : length reply ≡ 1 → ⊥) where
+      command-there : eqb (length reply) 1 ≡ false
+      command-there = ne_eqb (length reply) 1 more
+
+      pub reads-sign : command_of reply ≡ sign → read_as identifier code reply asks ≡ sign_read asks (data_of reply)
+      unfolding read_as
+      reads-sign mark = rw (id-own, command-there, eq-eqb (command_of reply) sign mark)
+
+      module _ (plain : command_of reply ≡ sign → ⊥) where
+        no_sign : is_sign reply ≡ false
+        no_sign = ne_eqb (command_of reply) sign plain
+
+        pub refuses-command : (command_of reply ≡ code → ⊥) → read_as identifier code reply asks ≡ not_read WrongCommand
+        unfolding read_as
+        refuses-command other = rw (id-own, command-there, no_sign, ne_eqb (command_of reply) code other)
+
+        pub refuses-echo : command_of reply ≡ code → code ≡ 0x01 → read_as identifier code reply asks ≡ not_read WrongCommand
+        unfolding read_as
+        refuses-echo same echoed = rw (id-own, command-there, no_sign, eq-eqb (command_of reply) code same, eq-eqb code 0x01 echoed)
+
+        pub reads-data : command_of reply ≡ code → (code ≡ 0x01 → ⊥) → read_as identifier code reply asks ≡ data_read asks (data_of reply)
+        unfolding read_as
+        reads-data same other = rw (id-own, command-there, no_sign, eq-eqb (command_of reply) code same, ne_eqb code 0x01 other)
+
+-- the same of a reply put together
+module _ (identifier code : ℕ) (asks : Command) where
   identifier-refused : (b : ℕ) (more : List ℕ) → (b ≡ identifier → ⊥) → read_as identifier code (b ∷ more) asks ≡ not_read WrongId
-  unfolding read_as
-  identifier-refused b more other = rw (some b more, ne_eqb b identifier other)
+  identifier-refused b more other = refuses-identifier identifier code (b ∷ more) asks (λ e. absurd (omega (arith, e))) other
 
-  own : eqb identifier identifier ≡ true
-  own = eq-eqb identifier identifier refl
-
-  -- row 7
   absent-refused : read_as identifier code (identifier ∷ []) asks ≡ not_read WrongCommand
-  unfolding read_as
-  absent-refused = rw own
+  absent-refused = refuses-absent identifier code (identifier ∷ []) asks (λ e. absurd (omega (arith, e))) refl refl
 
   module _ («data» : List ℕ) where
     sign-read : read_as identifier code (identifier ∷ sign ∷ «data») asks ≡ sign_read asks «data»
-    unfolding read_as
-    sign-read = rw (some identifier (sign ∷ «data»), own, two identifier sign «data»)
+    sign-read =
+        reads-sign identifier code (identifier ∷ sign ∷ «data») asks (λ e. absurd (omega (arith, e))) refl (λ e. absurd (omega (arith, e))) refl
 
     command-refused : (b : ℕ) → (b ≡ sign → ⊥) → (b ≡ code → ⊥)
         → read_as identifier code (identifier ∷ b ∷ «data») asks ≡ not_read WrongCommand
-    unfolding read_as
     command-refused b plain other =
-        rw (some identifier (b ∷ «data»), own, two identifier b «data», ne_eqb b sign plain, ne_eqb b code other)
+        refuses-command identifier code (identifier ∷ b ∷ «data») asks (λ e. absurd (omega (arith, e))) refl (λ e. absurd (omega (arith, e)))
+        plain other
 
     module _ (plain : eqb code sign ≡ false) where
       echo-refused : code ≡ 0x01 → read_as identifier code (identifier ∷ code ∷ «data») asks ≡ not_read WrongCommand
-      unfolding read_as
       echo-refused echoed =
-          rw (some identifier (code ∷ «data»), own, two identifier code «data», plain, eq-eqb code code refl, eq-eqb code 0x01 echoed)
+          refuses-echo identifier code (identifier ∷ code ∷ «data») asks (λ e. absurd (omega (arith, e))) refl (λ e. absurd (omega (arith, e)))
+          (eqb-false code sign plain) refl echoed
 
       data-read : eqb code 0x01 ≡ false → read_as identifier code (identifier ∷ code ∷ «data») asks ≡ data_read asks «data»
-      unfolding read_as
-      data-read other = rw (some identifier (code ∷ «data»), own, two identifier code «data», plain, eq-eqb code code refl, other)
+      data-read other =
+          reads-data identifier code (identifier ∷ code ∷ «data») asks (λ e. absurd (omega (arith, e))) refl (λ e. absurd (omega (arith, e)))
+          (eqb-false code sign plain) refl (eqb-false code 0x01 other)
 
   -- a NACK is read as its number, an ACK as one where a write was asked for, and data of a length that is due as that data
   nack-read : (n : ℕ) → 1 ≤ n → n ≤ 6 → read_as identifier code (front_of identifier code (NACK n)) asks ≡ has_read (NACK n)
@@ -177,7 +205,7 @@ module _ (identifier code : ℕ) («data» : List ℕ) where
             rw (same, data-read identifier code command data' (code_is asked).1 (ne_eqb code 0x01 other)) (by-data data' other)
 
     by-reply : (reply : List ℕ) → Row reply (read_as identifier code reply command)
-    by-reply [] = rw (empty-refused identifier code command) empty
+    by-reply [] = rw (refuses-empty identifier code [] command refl) empty
     by-reply (b ∷ more) = of more (ℕ_discrete b identifier)
       where
         of : (more : List ℕ) → Dec (b ≡ identifier) → Row (b ∷ more) (read_as identifier code (b ∷ more) command)
@@ -187,7 +215,7 @@ module _ (identifier code : ℕ) («data» : List ℕ) where
 
     reply-only : {reply : List ℕ} {answer : Understood} → Row reply answer → answer ≡ read_as identifier code reply command
     unfolding sign_read reason_read data_read
-    reply-only empty = sym (empty-refused identifier code command)
+    reply-only empty = sym (refuses-empty identifier code [] command refl)
     reply-only (other_identifier {b} {more} other) = sym (identifier-refused identifier code command b more other)
     reply-only no_command = sym (absent-refused identifier code command)
     reply-only (other_command {b} {more} plain other) = sym (command-refused identifier code command more b plain other)

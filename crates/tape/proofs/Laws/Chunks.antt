@@ -4,7 +4,7 @@ use mathlib.Core.Path.{◌≡◌, refl, sym, ap, ap₂, subst⁻¹, ◌∙◌}
 use mathlib.Core.Bool.{true, false}
 use mathlib.Core.List.{List, [], ◌∷◌}
 use Prim.Native.Nat.{ℕ, ◌+◌, ◌*◌, ◌-◌, ◌≤◌, ◌<◌}
-use native.Mathlib.Nat.{add-zero, add_assoc}
+use native.Mathlib.Nat.{add-zero, zero-add, add_assoc}
 use native.Mathlib.Omega.{arith}
 use lib.ListN.{length, drop, get_or, length-take, length-drop, drop_of_length-le}
 use lib.Seq.{drop-drop}
@@ -18,11 +18,15 @@ use Rattle.tape_spec.specs.declared.tape.Next.TheVariants.{Kind, Body}
 use Rattle.tape_spec.specs.declared.tape.Receivers.{Receivers}
 use Rattle.tape_spec.specs.declared.tape.Tape.{Tape}
 use Rattle.tape_spec.specs.Whole.{kind_of, receiver_on, with_receiver}
-use Rattle.tape_spec.specs.Taping.{tape_of, after_kind, is_over, Went, standing, going, ListedOut, listed_to, bad_tape}
+use Rattle.tape_spec.specs.Taping.{tape_of, after_kind, is_over, Went, standing, going, ListedOut, listed_to, text_written, bad_tape}
 use Rattle.tape_spec.proofs.Laws.Fine.{kind-fine, with-receiver-fine, on_fine, receivers-fine, body-permitted, tape-fine}
 use Rattle.tape_spec.proofs.Laws.Taping.{went_after}
 use Rattle.tape.specs.Running.{linked, laced, Run, running, Left, RunHeard}
 use Rattle.tape.proofs.Laws.Going.{going-over, going-full, going-kind, running-some, running-within, running-good, goes_on}
+
+-- what a result says, over this buffer
+abbrev pub over : List ℕ → ListedOut → ListedOut
+over out d = record { refusal = d.refusal; tape = d.tape; taken = d.taken; written = d.written; out = out }
 
 -- a result with where its text ends and what it left
 abbrev wrote : Tape → ℕ → Ended → ListedOut
@@ -31,6 +35,14 @@ wrote t taken e = listed_to t taken e.end e.out
 -- after some bytes whose text ends here
 abbrev pub writing_after : ℕ → Went → List ℕ → ℕ → ListedOut
 writing_after taken w out written = wrote w.tape (taken + w.taken) (placed w.text out written)
+
+pub none-taken : (t : Tape) (chunk out : List ℕ)
+    → writing_after 0 (going (length out - 0) t (drop 0 chunk)) out 0 ≡ text_written (going (length out) t chunk) out
+none-taken t chunk out =
+    let all : length out - 0 ≡ length out = omega arith in
+    let w = going (length out) t chunk in
+    ap (λ (room : ℕ). writing_after 0 (going room t chunk) out 0) all
+    ∙ ap₂ (λ (n k : ℕ). listed_to w.tape n k (laid out 0 w.text)) (zero-add w.taken) (zero-add (length w.text))
 
 -- what was gone over is part of what was taken and written before
 writing_more : (taken k : ℕ) (text : List ℕ) (w : Went) (out : List ℕ) (written : ℕ) → written ≤ length out

@@ -4,7 +4,7 @@ use mathlib.Core.Path.{◌≡◌, refl, sym, ap, ap₂, subst⁻¹, ◌∙◌}
 use mathlib.Core.Bool.{Bool, false, cond}
 use mathlib.Core.List.{List}
 use Prim.Native.Nat.{ℕ, ◌+◌, ◌-◌, ◌≤◌, ◌<◌}
-use native.Mathlib.Nat.{add-zero, add_assoc}
+use native.Mathlib.Nat.{add-zero, zero-add, add_assoc}
 use native.Mathlib.Omega.{arith}
 use lib.ListN.{length, drop, length-drop, drop_of_length-le}
 use lib.Seq.{drop-drop}
@@ -23,7 +23,7 @@ use Rattle.link_spec.proofs.Laws.Receiving.{refused-only, received-takes, stays-
 use Rattle.tape_spec.specs.declared.tape.Line.{Line}
 use Rattle.tape_spec.specs.Limits.{least_room, most_records}
 use Rattle.tape_spec.proofs.Laws.Taping.{heard-row-within}
-use Rattle.tape.specs.Running.{Run, resting, running, Left}
+use Rattle.tape.specs.Running.{Run, resting, running, Left, run_left}
 use Rattle.tape.proofs.Laws.Running.{call_text, Hears, running-full, running-piece}
 
 -- a call on a receiver that is not bad is not refused, and neither is a row that has room
@@ -44,6 +44,9 @@ left_by s count e = record { receiver = s; count = count; end = e.end; out = e.o
 -- after some bodies whose rows end here
 abbrev pub leaving_after : ℕ → Run → List ℕ → ℕ → Left
 leaving_after count w out end = left_by w.receiver (count + w.count) (placed w.text out end)
+
+pub none_before : (w : Run) (out : List ℕ) (end : ℕ) → leaving_after 0 w out end ≡ run_left w out end
+none_before w out end = ap (λ (k : ℕ). left_by w.receiver k (placed w.text out end)) (zero-add w.count)
 
 module _ (line : Line) (records : ℕ) (bodies : List ℕ) (all : Left) where
   -- `count` bodies were heard, and their rows end at `end`

@@ -4,7 +4,7 @@ use mathlib.Core.Path.{◌≡◌, refl, ap, ◌∙◌}
 use mathlib.Core.List.{List, [], ◌∷◌}
 use Prim.Native.Nat.{ℕ, ◌+◌, ◌*◌, ◌-◌, ◌≤◌, ◌<◌}
 use native.Mathlib.Omega.{arith}
-use lib.ListN.{length, set}
+use lib.ListN.{length, get_or, set, drop}
 use Rattle.ground.specs.Laying.{laid}
 use Rattle.ground.proofs.Laws.Laying.{laid_next, laid_more}
 use Rattle.text.specs.Hex.{dash, dot, pair, further, pairs}
@@ -40,3 +40,10 @@ unfolding further
 laid-further l end b bs h =
     ap (λ (k : List ℕ). laid k (end + 3) (further bs)) (laid_next l end dot (pair b) h)
     ∙ laid_more l end (dot ∷ pair b) (further bs) (omega arith)
+
+-- the first pair and what is further
+pub laid-pairs : (l : List ℕ) (at : ℕ) (bytes : List ℕ) → at ≤ length l → 0 < length bytes
+    → laid (laid l at (pair (get_or bytes 0 0))) (at + 2) (further (drop 1 bytes)) ≡ laid l at (pairs bytes)
+unfolding pairs
+laid-pairs l at [] h some = absurd (omega arith)
+laid-pairs l at (b ∷ bs) h some = laid_more l at (pair b) (further bs) h

@@ -1,7 +1,7 @@
 -- Laws of stuffing: what it makes of each byte, how long it is, and what never stands in it.
 -- Assumes nothing.
 use mathlib.Core.Path.{◌≡◌, refl, sym, ap, ◌∙◌, subst}
-use mathlib.Core.Bool.{true, false, cond, true≢false}
+use mathlib.Core.Bool.{Bool, true, false, cond, true≢false}
 use mathlib.Core.List.Memᴰ
 use mathlib.Core.List.{List, [], ◌∷◌, ◌++◌, append_assoc, Memᴰ}
 use mathlib.Core.Logic.{⊎_elim}
@@ -9,10 +9,10 @@ use Prim.Native.Nat.{ℕ, ◌+◌, ◌-◌, ◌≤◌, ◌<◌, zero-le}
 use native.Mathlib.Nat.{zero-add}
 use native.Mathlib.Decide.{dec_le}
 use native.Mathlib.Omega.{arith}
-use lib.Dec.{eqb, lit≤}
+use lib.Dec.{eqb, ltb, lit≤}
 use lib.ListN.{length, length-append}
-use borrow.Author.Tests.{ne_eqb, eqb-true, eqb-false}
-use Rattle.ground.proofs.Laws.Choice.{cond-elim}
+use borrow.Author.Tests.{ne_eqb, eqb-true, eqb-false, ltb-true, ltb-false}
+use Rattle.ground.proofs.Laws.Choice.{cond-elim, by-test}
 use Rattle.wire_spec.specs.Stuffing.{stuffed, stuffing, special, specials}
 use Rattle.wire_spec.specs.Image.{start, stop}
 
@@ -31,6 +31,12 @@ plain-is b h = simp (ne_eqb b 0xFD (omega arith), ne_eqb b 0xFE (omega arith), n
 
 pub special-is : (b : ℕ) → 0xFD ≤ b → b < 0x100 → special b ≡ true
 special-is b least most = by-special (λ (n : ℕ). special n ≡ true) b least most refl refl refl
+
+-- they are the bytes over FC
+pub over-is : (b : ℕ) → b < 0x100 → ltb 0xFC b ≡ special b
+over-is b most =
+    by-test (λ (t : Bool). t ≡ special b) (ltb 0xFC b)
+    (λ over. sym (special-is b (omega (arith, ltb-true 0xFC b over)) most)) (λ under. sym (plain-is b (omega (arith, ltb-false 0xFC b under))))
 
 -- a byte that is none of them is not this one of them
 pub plain-ne : (b x : ℕ) → special b ≡ false → special x ≡ true → eqb b x ≡ false
