@@ -65,9 +65,13 @@ impl Receivers {
         let [address, ..] = payload else {
             return row.short();
         };
-        let fresh = fresh_addressed(*address);
-        self.addressed = fresh.unwrap_or(self.addressed);
-        row.refusal(fresh.err())
+        match fresh_addressed(*address) {
+            Ok(receiver) => {
+                self.addressed = receiver;
+                row.refusal(None)
+            }
+            Err(refused) => row.refusal(Some(refused.refusal)),
+        }
     }
 
     // Payload: line, address, phase, count, fill. Puts no field.

@@ -6,7 +6,7 @@ mod receiver;
 pub use frame::{write_addressed, write_point};
 pub use link_spec::{
     BROADCAST, Event, Heard, LAST_ADDRESS, LEAST_CONTENT, MASTER, MOST_DATA, Phase, Receiver,
-    Station, Verdict,
+    RefusedStation, Station, Verdict,
 };
 pub use receiver::receive;
 pub use station::{fresh_addressed, fresh_point, is_bad_state};

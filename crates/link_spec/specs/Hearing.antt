@@ -5,6 +5,7 @@ use Rattle.ground.specs.declared.refusal.Refusal.{Refusal}
 use Rattle.link_spec.specs.declared.station.Station.{Station}
 use Rattle.link_spec.specs.declared.station.Station.TheVariants.{Point, Addressed}
 use Rattle.link_spec.specs.declared.receiver.Receiver.{Receiver}
+use Rattle.link_spec.specs.declared.receiver.RefusedStation.{RefusedStation}
 use Rattle.link_spec.specs.declared.receiver.Heard.{Heard}
 use Rattle.link_spec.specs.Events.{Name, happened}
 use Rattle.link_spec.specs.Receiving.{fresh_receiver, made, fresh_made, Said, saying, received}
@@ -29,7 +30,7 @@ tells before said = note (before + said.taken) said.event (take said.length said
 -- a receiver for this station, as the call that makes it answers unless it refuses
 pub data IsFresh : Station → Receiver → Type 0 where
   point : {r : Receiver} → r ≡ fresh_receiver Point → IsFresh Point r
-  addressed : {own : ℕ} (r : Result Receiver Refusal) → made own r ≡ fresh_made own → (made own r).refusal ≡ 0 → IsFresh (Addressed own) (made own r).receiver
+  addressed : (r : Result Receiver RefusedStation) {own : ℕ} → made r ≡ fresh_made own → (made r).refusal ≡ 0 → IsFresh (Addressed own) (made r).receiver
 
 -- A hearing of what is left of a stream after this many bytes, and what its calls tell: either nothing is left, or there is one call
 -- more, on any piece, empty too, that continues there, and the hearing goes on with the receiver that the call answered, after the bytes

@@ -14,6 +14,7 @@ use Rattle.link_spec.specs.declared.receiver.Phase.TheVariants.{Outside, Inside,
 use Rattle.link_spec.specs.declared.receiver.Turn.{Turn}
 use Rattle.link_spec.specs.declared.receiver.Turn.TheVariants.{Rest, Begin, Wait, Keep, Stop, Tell}
 use Rattle.link_spec.specs.declared.receiver.Receiver.{Receiver}
+use Rattle.link_spec.specs.declared.receiver.RefusedStation.{RefusedStation}
 use Rattle.link_spec.specs.declared.receiver.Heard.{Heard}
 use Rattle.link_spec.specs.Address.{is_station, NoStation}
 use Rattle.link_spec.specs.Station.{check_on, has_address}
@@ -37,10 +38,10 @@ pub record Made : Type 0 where
   pub refusal : ℕ
   pub receiver : Receiver
 
--- what a call's result says that was to make a receiver for the station with this address
-abbrev pub made : ℕ → Result Receiver Refusal → Made
-made own (Ok receiver) = record { refusal = 0; receiver = receiver }
-made own (Err why) = record { refusal = number why; receiver = fresh_receiver (Addressed own) }
+-- what a call's result says that was to make a receiver for a station
+abbrev pub made : Result Receiver RefusedStation → Made
+made (Ok receiver) = record { refusal = 0; receiver = receiver }
+made (Err refused) = record { refusal = number refused.refusal; receiver = refused.receiver }
 
 -- row 3: a new station given 7F or FD..FF is BadAddress
 unfoldable pub fresh_made : ℕ → Made

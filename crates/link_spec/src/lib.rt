@@ -7,7 +7,7 @@ mod receiver;
 mod station;
 
 pub use event::{Event, Verdict};
-pub use receiver::{Heard, Phase, Receiver, Turn};
+pub use receiver::{Heard, Phase, Receiver, RefusedStation, Turn};
 pub use station::{BROADCAST, LAST_ADDRESS, MASTER, Station};
 use wire_spec::MOST_CONTENT;
 

@@ -1,6 +1,9 @@
 // The receiver's state, and what its calls answer.
+ghost use Rattle.std.specs.Prelude.{◌≡◌};
+
 use crate::event::{Event, Verdict};
 use crate::station::Station;
+use ground::Refusal;
 use wire_spec::MOST_CONTENT;
 
 // Where a receiver is: outside a frame, inside one, or inside one after an FF that waits for its partner.
@@ -30,6 +33,22 @@ pub struct Receiver {
     pub phase: Phase,
     pub count: usize,
     pub content: [u8; MOST_CONTENT],
+}
+
+// A station that is refused: why, and a receiver of its address, on which every call is refused.
+#[derive(Clone, Copy)]
+pub struct RefusedStation {
+    pub refusal: Refusal,
+    pub receiver: Receiver,
+}
+
+// `?` hands on why, without the receiver.
+impl From<RefusedStation> for Refusal {
+    ghost from_gives = { λ refused why. why ≡ refused.refusal };
+
+    fn from(refused: RefusedStation) -> Refusal {
+        refused.refusal
+    }
 }
 
 // What one call heard: the receiver for the next call; what it tells, which carries the first bytes of `content`, if anything happened; and

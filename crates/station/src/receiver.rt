@@ -4,7 +4,7 @@ ghost use Rattle.link_spec.specs.Receiving.{fresh_receiver as fresh_of, outside 
 
 use crate::address::has_address;
 use ground::Refusal;
-use link_spec::{Phase, Receiver, Station};
+use link_spec::{Phase, Receiver, RefusedStation, Station};
 use wire_spec::MOST_CONTENT;
 
 // A fresh receiver of the point line.
@@ -14,16 +14,21 @@ pub fn fresh_point() -> Receiver
     fresh(Station::Point)
 }
 
-// A fresh receiver of the addressed line for a station: 00 the master, else a reader's own address. Refuses 7F and FD..FF (BadAddress).
+// A fresh receiver of the addressed line for a station: 00 the master, else a reader's own address. Refuses 7F and FD..FF (BadAddress); the receiver
+// that comes with the refusal is of that address too, and every call on it is refused.
 #[tactic(auto, unfolding(link_spec::specs::Receiving::fresh_made))]
-pub fn fresh_addressed(own: u8) -> Result<Receiver, Refusal>
-    ensures { made own result ≡ fresh_made own }
+pub fn fresh_addressed(own: u8) -> Result<Receiver, RefusedStation>
+    ensures { made result ≡ fresh_made own }
 {
     let station = Station::Addressed(own);
+    let receiver = fresh(station);
     if has_address(station) {
-        Ok(fresh(station))
+        Ok(receiver)
     } else {
-        Err(Refusal::BadAddress)
+        Err(RefusedStation {
+            refusal: Refusal::BadAddress,
+            receiver,
+        })
     }
 }
 

@@ -44,7 +44,7 @@ pub fresh-station : (own : ℕ) → (NoStation own → ⊥) → IsFresh (Address
 unfolding fresh_made
 fresh-station own good =
     let is : is_station own ≡ true = (not-eq-not {b = true}).0 (λ none. good ((no-station-is own).0 none)) in
-    addressed {own = own} (Ok (fresh_receiver (Addressed own))) (rw is) refl
+    addressed (Ok (fresh_receiver (Addressed own))) (rw is) refl
 
 -- a receiver of this station that no row of the refusal table names, outside a frame
 pub record Begins (station : Station) (s : Receiver) : Type 0 where
@@ -62,7 +62,7 @@ accepted false e = absurd (omega arith)
 pub fresh-begins : {station : Station} {s : Receiver} → IsFresh station s → Begins station s
 unfolding fresh_made
 fresh-begins (point e) = subst⁻¹ (Begins Point) e (fresh_on Point refl)
-fresh-begins (addressed {own} r says taken) =
+fresh-begins (addressed r {own} says taken) =
     let good = accepted (is_station own) (sym (ap (λ (m : Made). m.refusal) says) ∙ taken) in
     subst⁻¹ (Begins (Addressed own)) (ap (λ (m : Made). m.receiver) says) (fresh_on (Addressed own) good)
 

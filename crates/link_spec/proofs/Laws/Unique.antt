@@ -3,17 +3,17 @@
 -- Assumes nothing.
 use mathlib.Core.Path.{◌≡◌, refl, sym, ap}
 use mathlib.Mathlib.Logic.Function.Defs.{LeftInverse-Injective}
-use Prim.Native.Nat.{ℕ}
 use Rattle.std.specs.Prelude.{Option, None, Some, Result, Ok, Err}
 use Rattle.std.proofs.lemmas.Option.{same_Some}
 use Rattle.ground.specs.declared.refusal.Refusal.{Refusal}
-use Rattle.ground.proofs.Laws.Refusals.{number-some}
+use Rattle.ground.proofs.Laws.Refusals.{number-some, number-injective}
 use Rattle.ground.proofs.Laws.Unique.{same, err-injective}
 use Rattle.link_spec.specs.declared.event.Event.{Event}
 use Rattle.link_spec.specs.declared.event.Verdict.{Verdict}
 use Rattle.link_spec.specs.declared.receiver.Turn.{Turn}
 use Rattle.link_spec.specs.declared.receiver.Turn.TheVariants.{Rest, Begin, Wait, Keep, Stop, Tell}
 use Rattle.link_spec.specs.declared.receiver.Receiver.{Receiver}
+use Rattle.link_spec.specs.declared.receiver.RefusedStation.{RefusedStation}
 use Rattle.link_spec.specs.declared.receiver.Heard.{Heard}
 use Rattle.link_spec.specs.Events.{event_told}
 use Rattle.link_spec.specs.Moves.{Move, IGNORED, BEGINS, WAITS, CONTENT, ENDS, EVENT, move_of, Ruling, ruling_of}
@@ -53,15 +53,17 @@ same-ruling {r} {s} p q =
     let event = same_Some r.event s.event (named-injective (Some r.event) (Some s.event) (ap (λ (m : Ruling). m.event) e)) in
     λ i. record { event = event i; length = (e i).length }
 
-made-injective : (own : ℕ) (r s : Result Receiver Refusal) → made own r ≡ made own s → r ≡ s
-made-injective own (Ok a) (Ok b) e = ap (λ (m : Made). Ok m.receiver) e
-made-injective own (Ok a) (Err w) e = absurd (number-some w (sym (ap (λ (m : Made). m.refusal) e)))
-made-injective own (Err v) (Ok b) e = absurd (number-some v (ap (λ (m : Made). m.refusal) e))
-made-injective own (Err v) (Err w) e = err-injective v w (ap (λ (m : Made). m.refusal) e)
+made-injective : (r s : Result Receiver RefusedStation) → made r ≡ made s → r ≡ s
+made-injective (Ok a) (Ok b) e = ap (λ (m : Made). Ok m.receiver) e
+made-injective (Ok a) (Err w) e = absurd (number-some w.refusal (sym (ap (λ (m : Made). m.refusal) e)))
+made-injective (Err v) (Ok b) e = absurd (number-some v.refusal (ap (λ (m : Made). m.refusal) e))
+made-injective (Err v) (Err w) e =
+    let why = same_Some v.refusal w.refusal (number-injective (Some v.refusal) (Some w.refusal) (ap (λ (m : Made). m.refusal) e)) in
+    λ i. Err (record { refusal = why i; receiver = (e i).receiver })
 
 -- of a call that makes a receiver or refuses
-pub same-made : (own : ℕ) {r s : Result Receiver Refusal} {t : Made} → made own r ≡ t → made own s ≡ t → r ≡ s
-same-made own {r} {s} p q = made-injective own r s (same p q)
+pub same-made : {r s : Result Receiver RefusedStation} {t : Made} → made r ≡ t → made s ≡ t → r ≡ s
+same-made {r} {s} p q = made-injective r s (same p q)
 
 said-injective : (s : Receiver) (r q : Result Heard Refusal) → saying s r ≡ saying s q → r ≡ q
 said-injective s (Ok a) (Ok b) e =
