@@ -2,7 +2,7 @@
 use crate::buffer::front_mut;
 use crate::number::number;
 use crate::op::Op;
-use std::io::{Error, ErrorKind, Read};
+use std::io::{Error, Read};
 
 // A record of the script: its op with the code, and a payload of so many bytes.
 #[derive(Clone, Copy)]
@@ -36,10 +36,13 @@ pub(crate) fn read_record(rt: &HostRuntime, space: &mut [u8]) -> Result<Record, 
 
 // Reads until all of `part` is filled; where the script ends before that, this is its ending.
 fn read_part(rt: &HostRuntime, part: &mut [u8], ending: Ending) -> Result<(), Ending> {
-    rt.stdin()
-        .read_exact(part)
-        .map_err(|error| match error.kind() {
-            ErrorKind::UnexpectedEof => ending,
-            _ => Ending::Failed(error),
-        })
+    let mut done = 0;
+    // not read_exact, which tries an interrupted read again: that is a failure here as it is in listing and report
+    while done < part.len() {
+        match rt.stdin().read(&mut part[done..]).map_err(Ending::Failed)? {
+            0 => return Err(ending),
+            count => done += count,
+        }
+    }
+    Ok(())
 }
