@@ -4,7 +4,9 @@ ghost use Rattle.checks.specs.Fcs.{residue as residue_of, fcs as fcs_of};
 
 use crate::table::TABLE;
 
-// The register after these bytes, not inverted: F0B8 after content with its FCS.
+// The register after these bytes, not inverted: F0B8 after content with its FCS. Never inlined, so that LLVM sees where it is asked twice of the same
+// bytes, and works it out once.
+#[inline(never)]
 pub fn residue(bytes: &[u8]) -> u16
     ensures { result ≡ residue_of bytes.now }
 {

@@ -7,6 +7,7 @@ use ground::Refusal;
 use link_spec::{Heard, Phase, Receiver, Turn, Verdict};
 use rules::{at_byte, at_stop};
 use station::{is_bad_state, outside};
+use wire_spec::START;
 
 // The first event inside a piece, and how many bytes were taken, up to and with its byte.
 #[derive(Clone, Copy)]
@@ -51,7 +52,12 @@ fn hear(receiver: Receiver, piece: &[u8]) -> Heard
         let turn = at_byte(station, phase, count, piece[taken]);
         taken += 1;
         match turn {
-            Turn::Rest => {}
+            Turn::Rest => {
+                // so is all before the next FD
+                while taken < piece.len() && piece[taken] != START {
+                    taken += 1;
+                }
+            }
             Turn::Begin => {
                 phase = Phase::Inside;
                 count = 0;

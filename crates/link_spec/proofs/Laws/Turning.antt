@@ -1,11 +1,13 @@
--- A receiver's turn follows the table of its rules, and the table leaves no other turn; a byte that is kept has room.
+-- A receiver's turn follows the table of its rules, and the table leaves no other turn; a byte that is kept has room, what is told is an event, and
+-- what is ignored comes outside a frame.
 -- Assumes nothing.
-use mathlib.Core.Path.{◌≡◌, refl, subst⁻¹, ◌∙◌}
+use mathlib.Core.Path.{◌≡◌, refl, sym, ap, subst⁻¹, ◌∙◌}
 use mathlib.Core.Bool.{Bool, true, false}
 use Prim.Native.Nat.{ℕ, zero, suc, ◌-◌, ◌≤◌, ◌<◌}
 use native.Mathlib.Omega.{arith}
 use lib.Dec.{eqb, ltb, leb, lit≤, eqb-suc-zero}
 use borrow.Author.Tests.{eqb-true, eqb-false, leb-true, leb-false, ltb-true, ltb-false, lt-ltb, le-ltb, le-leb, lt-leb, ne_eqb}
+use Rattle.std.specs.Prelude.{Some}
 use Rattle.ground.proofs.Laws.Choice.{cond-elim}
 use Rattle.wire_spec.specs.Limits.{most_content}
 use Rattle.wire_spec.specs.Stuffing.{special}
@@ -19,6 +21,7 @@ use Rattle.link_spec.specs.declared.receiver.Phase.TheVariants.{Outside, Inside,
 use Rattle.link_spec.specs.declared.receiver.Turn.{Turn}
 use Rattle.link_spec.specs.declared.receiver.Turn.TheVariants.{Rest, Begin, Wait, Keep, Stop, Tell}
 use Rattle.link_spec.specs.Address.{takes}
+use Rattle.link_spec.specs.Events.{named, happened}
 use Rattle.link_spec.specs.Turning.{kept, plain as plain_turn, partner, content_byte, inside, within, turn}
 use Rattle.link_spec.specs.Rules.{Address, first, Later, on_point, after_first, ByRule, ignored, begins, stops, address, no_address, waits, plain, pair, no_pair, long_plain, long_pair}
 
@@ -122,7 +125,7 @@ rule-only {b} (no_pair over f) = rw (ne_eqb b start f, lt-leb b 0x02 over)
 rule-only {station} {count} {b} (long_plain later other full) = long-is count b full ∙ plain-turn station count b later other
 rule-only {station} {count} {b} (long_pair known full) = long-is count (0xFF - b) full ∙ pair_turn station count b known
 
--- ---- a byte that is kept has room
+-- ---- a byte that is kept has room, and what is told is an event
 
 abbrev pub Sound : ℕ → Turn → Type 0
 Sound count Rest = Unit {0}
@@ -130,7 +133,7 @@ Sound count Begin = Unit {0}
 Sound count Wait = Unit {0}
 Sound count (Keep b) = count < most_content
 Sound count Stop = Unit {0}
-Sound count (Tell why) = Unit {0}
+Sound count (Tell why) = happened (named (Some why)) ≡ true
 
 pub address_room : {station : Station} {count b : ℕ} → Address station count b true → count < most_content
 address_room (first f g t) = lit≤ tt
@@ -140,13 +143,13 @@ rule-sound (ignored f) = tt
 rule-sound (begins e) = tt
 rule-sound (stops e) = tt
 rule-sound (address a) = address_room a
-rule-sound (no_address a) = tt
+rule-sound (no_address a) = refl
 rule-sound (waits later e) = tt
 rule-sound (plain later other room) = room
 rule-sound (pair known room) = room
-rule-sound (no_pair over f) = tt
-rule-sound (long_plain later other full) = tt
-rule-sound (long_pair known full) = tt
+rule-sound (no_pair over f) = refl
+rule-sound (long_plain later other full) = refl
+rule-sound (long_pair known full) = refl
 
 pub turn-sound : (station : Station) (phase : Phase) (count b : ℕ) → Sound count (turn station phase count b)
 turn-sound station phase count b = rule-sound (turn-rule station phase count b)
@@ -154,3 +157,34 @@ turn-sound station phase count b = rule-sound (turn-rule station phase count b)
 -- the same of a byte that a turn is known to keep
 pub keep-room : (station : Station) (phase : Phase) (count b : ℕ) {kept : ℕ} → Keep kept ≡ turn station phase count b → count < most_content
 keep-room station phase count b is = subst⁻¹ (Sound count) is (turn-sound station phase count b)
+
+-- ---- a byte that is ignored comes outside a frame, and there every byte but FD is ignored
+
+abbrev Ignoring : Phase → Turn → Type 0
+Ignoring phase Rest = phase ≡ Outside
+Ignoring phase Begin = Unit {0}
+Ignoring phase Wait = Unit {0}
+Ignoring phase (Keep b) = Unit {0}
+Ignoring phase Stop = Unit {0}
+Ignoring phase (Tell why) = Unit {0}
+
+rule-ignoring : {station : Station} {count b : ℕ} {phase : Phase} {t : Turn} → ByRule station count b phase t → Ignoring phase t
+rule-ignoring (ignored f) = refl
+rule-ignoring (begins e) = tt
+rule-ignoring (stops e) = tt
+rule-ignoring (address a) = tt
+rule-ignoring (no_address a) = tt
+rule-ignoring (waits later e) = tt
+rule-ignoring (plain later other room) = tt
+rule-ignoring (pair known room) = tt
+rule-ignoring (no_pair over f) = tt
+rule-ignoring (long_plain later other full) = tt
+rule-ignoring (long_pair known full) = tt
+
+pub rest-outside : (station : Station) (phase : Phase) (count b : ℕ) → Rest ≡ turn station phase count b → phase ≡ Outside
+rest-outside station phase count b is = subst⁻¹ (Ignoring phase) is (rule-ignoring (turn-rule station phase count b))
+
+pub outside-rests : (station : Station) (phase : Phase) (count b : ℕ) → phase ≡ Outside → (b ≡ start → ⊥) → Rest ≡ turn station phase count b
+outside-rests station phase count b out other =
+    let rule : ByRule station count b Outside Rest = ignored other in
+    rule-only rule ∙ ap (λ (p : Phase). turn station p count b) (sym out)

@@ -3,7 +3,7 @@
 use mathlib.Core.Path.{◌≡◌, refl, sym, ap, subst, ◌∙◌}
 use mathlib.Core.Bool.{false}
 use mathlib.Core.List.{List, [], ◌∷◌}
-use Prim.Native.Nat.{ℕ, suc, ◌+◌, ◌-◌, ◌<◌}
+use Prim.Native.Nat.{ℕ, suc, ◌+◌, ◌-◌, ◌≤◌, ◌<◌}
 use native.Mathlib.Nat.{add-zero, add_assoc}
 use native.Mathlib.Numerals.{add-one}
 use native.Mathlib.Omega.{arith}
@@ -15,15 +15,13 @@ use Rattle.wire_spec.specs.Stuffing.{specials}
 use Rattle.wire_spec.specs.Image.{start}
 use Rattle.wire_spec.proofs.Laws.Stuffing.{plain-is, specials-append, specials-plain}
 use Rattle.link_spec.specs.declared.station.Station.{Station}
-use Rattle.link_spec.specs.declared.receiver.Phase.{Phase}
-use Rattle.link_spec.specs.declared.receiver.Phase.TheVariants.{Outside, Inside}
+use Rattle.link_spec.specs.declared.receiver.Phase.TheVariants.{Inside}
 use Rattle.link_spec.specs.declared.receiver.Receiver.{Receiver}
 use Rattle.link_spec.specs.declared.receiver.Turn.{Turn}
-use Rattle.link_spec.specs.declared.receiver.Turn.TheVariants.{Rest, Keep}
-use Rattle.link_spec.specs.Rules.{Later, on_point, after_first, ByRule, ignored, plain}
-use Rattle.link_spec.specs.Turning.{turn}
+use Rattle.link_spec.specs.declared.receiver.Turn.TheVariants.{Keep}
+use Rattle.link_spec.specs.Rules.{Later, on_point, after_first, ByRule, plain}
 use Rattle.link_spec.specs.Receiving.{receiver_of, turn_at, moved, has_event, bad_receiver}
-use Rattle.link_spec.proofs.Laws.Turning.{rule-only}
+use Rattle.link_spec.proofs.Laws.Turning.{rule-only, outside-rests}
 use Rattle.link_spec.proofs.Laws.Fit.{fit-good}
 use Rattle.totals_spec.specs.Whole.{sums_of}
 use Rattle.totals_spec.specs.Adding.{account, with_bytes, after_bytes}
@@ -32,8 +30,16 @@ use Rattle.totals.specs.Sweeping.{Passes, Skipped, Kept}
 
 -- ---- over some bytes
 
--- over some, and then over others
-passes_then : {s r q : Receiver} {l m n : List ℕ} {k j : ℕ} → Passes s l k r m → Passes r m j q n → Passes s l (k + j) q n
+-- over none
+pub passes_none : (s : Receiver) (l : List ℕ) → Passes s l 0 s l
+passes_none s l =
+    record {
+      same = λ sums. ap (λ (h : ℕ). after_bytes (account s (sums_of sums.frames h sums.inside sums.reserved)) l)
+          (sym (add-zero sums.heard));
+    }
+
+-- and then over others
+pub passes_then : {s r q : Receiver} {l m n : List ℕ} {k j : ℕ} → Passes s l k r m → Passes r m j q n → Passes s l (k + j) q n
 passes_then {q = q} {n = n} {k = k} {j = j} a b =
     record {
       same = λ sums. a.same sums
@@ -53,10 +59,14 @@ passes-byte s piece at good more is quiet =
 
 -- ---- outside a frame
 
-rests : (s : Receiver) (b : ℕ) → s.phase ≡ Outside → (b ≡ start → ⊥) → Rest ≡ turn_at s b
-rests s b out other =
-    let rule : ByRule s.station s.count b Outside Rest = ignored other in
-    rule-only rule ∙ ap (λ (p : Phase). turn s.station p s.count b) (sym out)
+pub skip-none : (piece : List ℕ) (from : ℕ) → from ≤ length piece → Skipped piece from from
+skip-none piece from h =
+    let none : 0 ≡ from - from = omega arith in
+    record {
+      least = omega arith;
+      most = h;
+      passes = λ s out good. subst (λ (k : ℕ). Passes s (drop from piece) k s (drop from piece)) none (passes_none s (drop from piece));
+    }
 
 pub skip-more : {piece : List ℕ} {from at : ℕ} → Skipped piece from at → at < length piece → (get_or piece at 0 ≡ start → ⊥)
     → Skipped piece from (at + 1)
@@ -67,10 +77,27 @@ skip-more {piece} {from} {at} k more other =
       least = omega (arith, k.least);
       most = omega arith;
       passes = λ s out good. subst (λ (n : ℕ). Passes s (drop from piece) n s (drop (at + 1) piece)) far
-          (passes_then (k.passes s out good) (passes-byte s piece at good more (rests s (get_or piece at 0) out other) refl));
+          (passes_then (k.passes s out good) (passes-byte s piece at good more (outside-rests s.station s.phase s.count (get_or piece at 0) out other) refl));
     }
 
 -- ---- inside a frame
+
+pub keep-none : (station : Station) (content : List ℕ) (count : ℕ) (piece : List ℕ) (from : ℕ) → length content ≡ most_content → count ≤ most_content
+    → from ≤ length piece
+    → Kept station content count piece from count content
+keep-none station content count piece from sized within part =
+    let none : 0 ≡ count - count = omega arith in
+    let here : from ≡ from + (count - count) = omega arith in
+    let s = receiver_of station Inside count content in
+    record {
+      least = omega arith;
+      most = within;
+      part = omega arith;
+      sized = sized;
+      plain = refl;
+      passes = λ good. subst (λ (j : ℕ). Passes s (drop from piece) (count - count) s (drop j piece)) here
+          (subst (λ (k : ℕ). Passes s (drop from piece) k s (drop from piece)) none (passes_none s (drop from piece)));
+    }
 
 -- the byte after one that is not the address is not the address
 pub later-next : {station : Station} {n : ℕ} → Later station n → Later station (suc n)

@@ -13,7 +13,7 @@ use Rattle.link_spec.specs.Events.{verdict}
 use Rattle.link_spec.specs.Station.{check_on}
 use Rattle.link_spec.specs.Turning.{turn}
 use Rattle.link_spec.specs.Receiving.{receiver_of, outside, moved, has_event, outcome, outcome_at, said_of, heard}
-use Rattle.link_spec.proofs.Laws.Turning.{keep-room}
+use Rattle.link_spec.proofs.Laws.Turning.{keep-room, rest-outside, outside-rests}
 use Rattle.link_spec.proofs.Laws.Receiving.{Going, runs-out, next-byte, breaks-off}
 use Rattle.link_spec.proofs.Laws.Unique.{same_move, same-ruling}
 use Rattle.link.specs.declared.receiver.Found.{Found}
@@ -38,9 +38,21 @@ module _ (c : After-at_byte-turn) {t : Turn} (found : c.at_byte-turn.result ≡ 
 pub returns-then-taken-piece : goal.returns-then-taken-piece
 returns-then-taken-piece c = c.heard_with.ensures ∙ runs-out c.loop-taken.invariant (omega arith)
 
-pub loop-taken-preserved-in-Rest : goal.loop-taken-preserved-in-Rest
+-- a byte that is ignored comes outside a frame, where all is ignored up to the next FD
+pub loop-taken-2-init : goal.loop-taken-2-init
 unfolding moved
-loop-taken-preserved-in-Rest c = goes_on (goal.at.loop-taken-preserved-in-Rest c).After-at_byte-turn c.in-Rest.is refl
+loop-taken-2-init c =
+    let at = (goal.at.loop-taken-2-init c).After-at_byte-turn in
+    (omega arith, rest-outside _ _ _ _ (turn_is at c.in-Rest.is), goes_on at c.in-Rest.is refl)
+
+pub loop-taken-2-preserved : goal.loop-taken-2-preserved
+unfolding moved
+loop-taken-2-preserved c =
+    let (later, out, going) = c.loop-taken-2.invariant in
+    (omega (arith, later), out, next-byte going (omega arith) (outside-rests _ _ _ _ out c.if-piece-taken.true) refl)
+
+pub loop-taken-smaller-else-piece-taken : goal.loop-taken-smaller-else-piece-taken
+loop-taken-smaller-else-piece-taken c = omega (arith, c.loop-taken-2.invariant.0)
 
 pub loop-taken-preserved-in-Begin : goal.loop-taken-preserved-in-Begin
 unfolding moved
