@@ -21,7 +21,7 @@ returns-in-Fcs c =
     let a = c.args in
     let e = c.in-Fcs.is in
     right-compared a.check a.content.now c.in-Some.front _ _ _ (omega arith) c.split_at.ensures.front c.split_at.ensures.back
-    (rw e (c.as_slice.ensures ∙ c.to_le_bytes.ensures ∙ low_first c.split_at.result.0.now c.fcs.result c.fcs.ensures)) c.eq.ensures
+    (rw e (c.as_slice.ensures ∙ c.to_le_bytes.ensures ∙ low_first c.split_at.result.0.now _ (omega (arith, c.fcs.ensures)))) c.eq.ensures
 
 pub returns-in-Sum : goal.returns-in-Sum
 unfolding check_of

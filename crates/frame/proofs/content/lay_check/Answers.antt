@@ -20,7 +20,7 @@ returns-in-Fcs c =
     let e = c.in-Fcs.is in
     rw e
     (ap (put_mid a.front (a.front + 2 - a.front) a.content.now)
-    (c.copy_from_slice.ensures.after ∙ c.to_le_bytes.ensures ∙ low_first (take a.front a.content.now) _ c.fcs-value.ensures)
+    (c.copy_from_slice.ensures.after ∙ c.to_le_bytes.ensures ∙ low_first (take a.front a.content.now) _ (omega (arith, c.fcs-value.ensures)))
     ∙ laid-piece a.content.now a.front (fcs_bytes (take a.front a.content.now)) (omega (arith, c.requires, ap check_length e)))
 
 pub returns-in-Sum : goal.returns-in-Sum
