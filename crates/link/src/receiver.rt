@@ -53,7 +53,7 @@ fn hear(receiver: Receiver, piece: &[u8]) -> Heard
         taken += 1;
         match turn {
             Turn::Rest => {
-                // so is all before the next FD
+                // it is ignored, and so is all before the next FD
                 while taken < piece.len() && piece[taken] != START {
                     taken += 1;
                 }

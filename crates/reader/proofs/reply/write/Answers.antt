@@ -9,42 +9,34 @@ use Rattle.std.specs.Prelude.{Result, Ok, Err, IsOk}
 use Rattle.ground.specs.declared.refusal.Refusal.{Refusal}
 use Rattle.ground.specs.Refusals.{tally}
 use Rattle.ground.proofs.Laws.Refusals.{number-some}
-use Rattle.wire_spec.specs.Image.{image}
-use Rattle.wire_spec.specs.Writing.{After, after, putting}
+use Rattle.wire_spec.specs.Writing.{After, after}
 use Rattle.link_spec.specs.Limits.{most_data}
-use Rattle.link_spec.specs.Frame.{point_content}
 use Rattle.link_spec.specs.Writers.{point_written}
 use Rattle.link_spec.proofs.Laws.Writers.{point-writes}
 use Rattle.reader_spec.specs.Limits.{room}
 use Rattle.reader_spec.proofs.Laws.Replies.{point-room}
-use Rattle.reader.specs.Replies.{Fills}
+use Rattle.reader.proofs.Laws.Replies.{reply-put}
 use Rattle.reader.proofs.reply.write.Goals as goal
 
 not-refused : (r : Result ℕ Refusal) → (tally r).refusal ≡ 0 → IsOk r
 not-refused (Ok n) e = refl
 not-refused (Err why) e = absurd (number-some why e)
 
-module _ (identifier command : ℕ) («data» out : List ℕ) (fits : length «data» ≤ most_data) (long : room ≤ length out) where
-  content-room : length (image (point_content identifier command «data»)) ≤ room
-  content-room = point-room identifier command «data» fits
-
-  written : point_written identifier command «data» out ≡ putting (point_content identifier command «data») out
-  written = point-writes identifier command «data» out fits (omega (arith, content-room))
-
-  reply-fine : (r : Result ℕ Refusal) {out' : List ℕ} → after r out' ≡ point_written identifier command «data» out → IsOk r
-  reply-fine r says = not-refused r (ap (λ (a : After). a.tally.refusal) (says ∙ written))
-
-  reply-put : {n : ℕ} {out' : List ℕ} → after (Ok n) out' ≡ point_written identifier command «data» out
-      → Fills n out' (point_content identifier command «data») out
-  reply-put says =
-      let put = says ∙ written in (put, omega (arith, content-room, ap (λ (a : After). a.tally.count) put))
+reply-fine : (r : Result ℕ Refusal) (identifier command : ℕ) («data» out : List ℕ) {out' : List ℕ} → length «data» ≤ most_data → room ≤ length out
+    → after r out' ≡ point_written identifier command «data» out
+    → IsOk r
+reply-fine r identifier command «data» out fits long says =
+    let content-room = point-room identifier command «data» fits in
+    let written = point-writes identifier command «data» out fits (omega (arith, content-room)) in
+    not-refused r (ap (λ (a : After). a.tally.refusal) (says ∙ written))
 
 pub unwrap-requires : goal.unwrap-requires
 unwrap-requires c =
     let a = c.args in
-    reply-fine a.identifier a.command a.«data».now a.out.now c.requires.0 c.requires.1 _ c.write_point.ensures
+    reply-fine _ a.identifier a.command a.«data».now a.out.now c.requires.0 c.requires.1 c.write_point.ensures
 
 pub returns : goal.returns
 returns c =
     let a = c.args in
-    reply-put a.identifier a.command a.«data».now a.out.now c.requires.0 c.requires.1 (rw c.unwrap.ensures at c.write_point.ensures)
+    reply-put (Ok c.unwrap.result) a.identifier a.command a.«data».now a.out.now c.requires.0 c.requires.1
+    (rw c.unwrap.ensures at c.write_point.ensures)
